@@ -1,0 +1,4 @@
+pub mod Answers
+pub mod State
+pub mod Of
+pub mod Sheet

@@ -1,0 +1,7 @@
+pub mod AmongLevels
+pub mod Decided
+pub mod FlipLaws
+pub mod LadderLaws
+pub mod Levels
+pub mod OwnersLaws
+pub mod PairLaws
