@@ -1,6 +1,6 @@
 ghost use mathlib.Core.Path.{_≡_};
 ghost use lib.ListN.{getD};
-ghost use Rattle.bench.specs.Input.{level as level-of, value as value-of, observer as observer-of, fits as fits-of};
+ghost use Rattle.bench.specs.Input.{level as level-of, value as value-of, observer as observer-of, fits as fits-of, job as job-of};
 
 // The bytes of a bench input.
 #[derive(Drop)]
@@ -54,5 +54,12 @@ impl Input<'_> {
         ensures { λ r. ⌜ r ≡ observer-of (now (now (self .entry) .bytes)) ⌝ }
     {
         u16::from_le_bytes([self.byte(193), self.byte(194)])
+    }
+
+    // The job's bytes; none where the input ends before them.
+    pub fn job(&self) -> &[u8]
+        ensures { λ r. ⌜ now r ≡ job-of (now (now (self .entry) .bytes)) ⌝ }
+    {
+        &self.bytes[Self::SHORTEST.min(self.bytes.len())..]
     }
 }

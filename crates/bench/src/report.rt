@@ -4,10 +4,12 @@ ghost use mathlib.Core.List.{_++_};
 ghost use lib.ListN.{length};
 ghost use Rattle.std.specs.Of.String.{string-bytes};
 ghost use Rattle.std.specs.Vec.{made};
-ghost use Rattle.controller.specs.Of.{setup-state, ready-state};
-ghost use Rattle.bench.specs.Input.{level as level-of, value as value-of, levels-below, each};
-ghost use Rattle.bench.specs.Report.{bad-input as bad-input-text, row as row-of, rows as rows-of, sheet-text as sheet-text-of, shown-text as shown-text-of, report-over as report-over-of, report as report-of};
+ghost use Rattle.checker.specs.Faults.{mount-answer};
+ghost use Rattle.controller.specs.Of.{ready-state};
+ghost use Rattle.bench.specs.Input.{level as level-of, value as value-of, all-levels, each, with-values};
+ghost use Rattle.bench.specs.Report.{bad-input as bad-input-text, row as row-of, rows as rows-of, sheet-text as sheet-text-of, mount-line as mount-line-of, shown-text as shown-text-of, report-over as report-over-of, report as report-of};
 use crate::input::Input;
+use checker::MountFault;
 use controller::Ready;
 use controller::Setup;
 use controller::VARIABLES;
@@ -68,25 +70,52 @@ fn sheet_text(heap: Global, count: usize, sheet: &[u8]) -> Result<String, AllocE
     Ok(text)
 }
 
-// The text of an observer's sheet, by way of a buffer that any sheet fits.
+// The number and the label that a mount answers.
+fn numbers(answer: Result<(), MountFault>) -> (u8, u16)
+    ensures { λ r. ⌜ r ≡ mount-answer answer ⌝ }
+{
+    match answer {
+        Ok(()) => (0, 0),
+        Err(fault) => fault.answer(),
+    }
+}
+
+// The text of a mount's answer and a sheet.
+fn report_text(
+    heap: Global,
+    mounted: (u8, u16),
+    count: usize,
+    sheet: &[u8],
+) -> Result<String, AllocError>
+    ensures { λ r. ⌜ made r (λ t. string-bytes t ≡ mount-line-of mounted ++ sheet-text-of count (now (sheet .entry))) ⌝ }
+{
+    let (number, label) = mounted;
+    let mut text = format!(heap, "mount {number} {label}\n")?;
+    let lines = sheet_text(heap, count, sheet)?;
+    text.push_str(lines.as_str())?;
+    Ok(text)
+}
+
+// The text of a mount's answer and of an observer's sheet, by way of a buffer that any sheet fits.
 fn shown_text<L: Lattice>(
     heap: Global,
+    mounted: (u8, u16),
     ready: &Ready<L>,
     observer: u16,
     buffer: &mut [u8],
 ) -> Result<String, AllocError>
     requires { ⌜ length (now buffer) ≡ 160 ⌝ }
-    ensures { λ r. ⌜ made r (λ t. string-bytes t ≡ shown-text-of (L·Lattice .order (now (ready .entry) .lattice)) (ready-state (now (ready .entry))) observer) ⌝ }
+    ensures { λ r. ⌜ made r (λ t. string-bytes t ≡ shown-text-of (L·Lattice .order (now (ready .entry) .lattice)) mounted (ready-state (now (ready .entry))) observer) ⌝ }
 {
     match ready.show(observer, buffer) {
-        Ok(count) => sheet_text(heap, count, &buffer[0..LINE * count]),
+        Ok(count) => report_text(heap, mounted, count, &buffer[0..LINE * count]),
         Err(_) => bad_input(heap),
     }
 }
 
 // Gives each variable its level; false where a code is no level.
 fn grade_all<L: Lattice>(setup: &mut Setup<L>, input: &Input) -> bool
-    ensures test { λ r. ⌜ r ≡ levels-below (L·Lattice .order (now (setup .entry) .lattice)) (now (now (input .entry) .bytes)) 32 ⌝ }
+    ensures test { λ r. ⌜ r ≡ all-levels (L·Lattice .order (now (setup .entry) .lattice)) (now (now (input .entry) .bytes)) ⌝ }
     ensures levels { λ r. ⌜ (r ≡ true → now (setup .exit) .levels ≡ each (level-of (now (now (input .entry) .bytes)))) ⌝ }
     ensures same_lattice { λ _. ⌜ now (setup .exit) .lattice ≡ now (setup .entry) .lattice ⌝ }
 {
@@ -100,8 +129,7 @@ fn grade_all<L: Lattice>(setup: &mut Setup<L>, input: &Input) -> bool
 
 // Gives each variable its value.
 fn set_all<L: Lattice>(ready: &mut Ready<L>, input: &Input)
-    ensures values { λ _. ⌜ now (ready .exit) .values ≡ each (value-of (now (now (input .entry) .bytes))) ⌝ }
-    ensures levels { λ _. ⌜ now (ready .exit) .levels ≡ now (ready .entry) .levels ⌝ }
+    ensures state { λ _. ⌜ ready-state (now (ready .exit)) ≡ with-values (now (now (input .entry) .bytes)) (ready-state (now (ready .entry))) ⌝ }
     ensures same_lattice { λ _. ⌜ now (ready .exit) .lattice ≡ now (ready .entry) .lattice ⌝ }
 {
     for variable in 0..VARIABLES as u8 {
@@ -122,9 +150,10 @@ fn report_over<L: Lattice + Drop>(
         return bad_input(heap);
     }
     let mut ready = setup.seal();
+    let mounted = numbers(ready.mount(input.job()));
     set_all(&mut ready, input);
     let mut buffer = [0; SHEET];
-    shown_text(heap, &ready, input.observer(), &mut buffer)
+    shown_text(heap, mounted, &ready, input.observer(), &mut buffer)
 }
 
 // The report on a bench input, or the line `input` where it is none.

@@ -33,7 +33,7 @@ pub not-graded : (o : Order) (s t : Setup-state) (variable level : ℕ) (r : Res
 not-graded o s t variable level (Ok u) small err e = absurd (false≢true err)
 not-graded o s t variable level (Err refusal) small err e = let some = refused-is-some refusal in grind (arith, tells)
 
-pub was-set : (s t : Ready-state) (variable : ℕ) (value : ℤ) (r : Result (Unit {0}) Refusal) → variable < 32 → (done-answer r, t) ≡ set-outcome s variable value → (t .levels ≡ s .levels) × (t .values ≡ set (s .values) variable value)
+pub was-set : (s t : Ready-state) (variable : ℕ) (value : ℤ) (r : Result (Unit {0}) Refusal) → variable < 32 → (done-answer r, t) ≡ set-outcome s variable value → (t .levels ≡ s .levels) × (t .values ≡ set (s .values) variable value) × (t .program ≡ s .program)
 was-set s t variable value r small e = grind (arith, tells)
 
 -- an accepted show, and one that is refused though the buffer holds any sheet

@@ -1,15 +1,32 @@
 ghost use mathlib.Core.Path.{_≡_};
 ghost use Rattle.controller.specs.Answers.{done-answer, shown-answer};
-ghost use Rattle.controller.specs.State.{set-outcome};
+ghost use Rattle.checker.specs.Faults.{mount-answer};
+ghost use Rattle.controller.specs.State.{set-outcome, mount-outcome};
 ghost use Rattle.controller.specs.Sheet.{show-outcome};
 ghost use Rattle.controller.specs.Of.{ready-state};
 use super::Ready;
 use super::sheet::LINE;
 use crate::VARIABLES;
 use crate::refusal::Refusal;
+use checker::MountFault;
+use checker::check;
 use lattice::Lattice;
 
 impl<L: Lattice> Ready<L> {
+    // Takes a job: an accepted one replaces the mounted program.
+    pub fn mount(&mut self, bytes: &[u8]) -> Result<(), MountFault>
+        ensures outcome { λ r. ⌜ (mount-answer r, ready-state (now (self .exit))) ≡ mount-outcome (L·Lattice .order (now (self .entry) .lattice)) (ready-state (now (self .entry))) (now (bytes .entry)) ⌝ }
+        ensures same_lattice { λ _. ⌜ now (self .exit) .lattice ≡ now (self .entry) .lattice ⌝ }
+    {
+        match check(&self.lattice, &self.levels, bytes) {
+            Ok(program) => {
+                self.program = program;
+                Ok(())
+            }
+            Err(fault) => Err(fault),
+        }
+    }
+
     // Writes a value.
     pub fn set(&mut self, variable: u8, value: i32) -> Result<(), Refusal>
         ensures outcome { λ r. ⌜ (done-answer r, ready-state (now (self .exit))) ≡ set-outcome (ready-state (now (self .entry))) variable value ⌝ }

@@ -7,6 +7,7 @@ use crate::VARIABLES;
 use crate::ready::Ready;
 use crate::refusal::Refusal;
 use lattice::Lattice;
+use push::Program;
 
 impl<L: Lattice> Setup<L> {
     // A new controller over a lattice, with every level highest.
@@ -34,7 +35,7 @@ impl<L: Lattice> Setup<L> {
         Ok(())
     }
 
-    // Fixes the levels. Every value is 0 then.
+    // Fixes the levels. Every value is 0 then, and the job is empty.
     pub fn seal(self) -> Ready<L>
         ensures state { λ r. ⌜ ready-state r ≡ sealed-state (setup-state self) ⌝ }
         ensures same_lattice { λ r. ⌜ r .lattice ≡ self .lattice ⌝ }
@@ -44,6 +45,7 @@ impl<L: Lattice> Setup<L> {
             lattice,
             levels,
             values: [0; VARIABLES],
+            program: Program::empty(),
         }
     }
 }

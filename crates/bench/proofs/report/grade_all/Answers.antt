@@ -4,15 +4,17 @@ use Prim.Native.Nat.{_<_, _≤_}
 use native.Mathlib.Omega.{arith}
 use lib.ListN.{length, set}
 use Rattle.std.proofs.shelf.Edits.{fill-by-more}
-use Rattle.std.proofs.shelf.Tests.{false≢true}
+use Rattle.std.proofs.shelf.Tests.{false≢true, lt-ltb, le-ltb}
+use lib.Dec.{ltb}
+use Rattle.job.proofs.AllBelow.{all-none, all-more, all-spoilt}
 use Rattle.controller.specs.Of.{setup-state}
 use Rattle.controller.proofs.Outcomes.{graded, not-graded}
 use Rattle.bench.specs.Input.{level}
-use Rattle.bench.proofs.Fields.{each-at, levels-none, levels-more, levels-spoilt}
+use Rattle.bench.proofs.Fields.{each-at}
 use Rattle.bench.proofs.report.grade_all.Needs as need
 
 pub loop-variable-holds : need.loop-variable-holds
-loop-variable-holds g c = (λ k h. absurd (omega arith), levels-none _ _, refl)
+loop-variable-holds g c = (λ k h. absurd (omega arith), all-none _, refl)
 
 pub loop-variable-again : need.loop-variable-again
 loop-variable-again g c =
@@ -25,7 +27,7 @@ loop-variable-again g c =
     let levels = told .1 ∙ ap (set (before .levels) n) (c .level .ensures) in
     let within : n < length (before .levels) = omega (arith, before .sized) in
     let level-is : level bytes n < o .span = rw (c .level .ensures, same) at (told .0) in
-    (rw levels (fill-by-more (level bytes) (before .levels) n 0 within (c .loop-variable .inv .0)), levels-more o bytes n (c .loop-variable .inv .1) level-is, c .grade .ensures .same-lattice ∙ same)
+    (rw levels (fill-by-more (level bytes) (before .levels) n 0 within (c .loop-variable .inv .0)), all-more (λ variable. ltb (level bytes variable) (o .span)) n (c .loop-variable .inv .1) (lt-ltb (level bytes n) (o .span) level-is), c .grade .ensures .same-lattice ∙ same)
 
 pub returns : need.returns
 returns g c =
@@ -46,7 +48,7 @@ returns-then-is-err g c =
     let told = not-graded (g .L·Lattice .order (before .lattice)) (setup-state before) (setup-state (c .grade .last .self)) n (c .level .result) (c .grade .result) (c .loop-variable-test .taken) (sym (c .if-is-err .ensures tt .value)) (c .grade .ensures .outcome) in
     let no-level : o .span ≤ level bytes n = rw (c .level .ensures, same) at told in
     record {
-      test = sym (levels-spoilt o bytes n 32 no-level (c .loop-variable-test .taken));
+      test = sym (all-spoilt (λ variable. ltb (level bytes variable) (o .span)) n 32 (le-ltb (level bytes n) (o .span) no-level) (c .loop-variable-test .taken));
       levels = λ h. absurd (false≢true h);
       same-lattice = c .grade .ensures .same-lattice ∙ same;
     }

@@ -15,7 +15,7 @@ use Rattle.bench.proofs.Fields.{each-at}
 use Rattle.bench.proofs.report.set_all.Needs as need
 
 pub loop-variable-holds : need.loop-variable-holds
-loop-variable-holds g c = (λ k h. absurd (omega arith), refl, refl)
+loop-variable-holds g c = (λ k h. absurd (omega arith), refl, refl, refl)
 
 pub loop-variable-again : need.loop-variable-again
 loop-variable-again g c =
@@ -26,12 +26,12 @@ loop-variable-again g c =
     let told = was-set (ready-state before) (ready-state (c .set .last .self)) n (c .value .result) (c .set .result) (c .loop-variable-test .taken) (simp toZ-ofZ at (c .set .ensures .outcome)) in
     let values = told .1 ∙ ap (set (before .values) n) (c .value .ensures) in
     let within : n < length (before .values) = omega (arith, before .«values_sized») in
-    (rw values (fill-by-more f (before .values) n (pos 0) within (c .loop-variable .inv .0)), told .0 ∙ c .loop-variable .inv .1, c .set .ensures .same-lattice ∙ c .loop-variable .inv .2)
+    (rw values (fill-by-more f (before .values) n (pos 0) within (c .loop-variable .inv .0)), told .0 ∙ c .loop-variable .inv .1, told .2 ∙ c .loop-variable .inv .2, c .set .ensures .same-lattice ∙ c .loop-variable .inv .3)
 
 pub returns : need.returns
 returns g c =
+    let values = each-at (value (c .args .input .now .bytes .now)) (c .loop-variable .ready .values) (pos 0) (c .loop-variable .ready .«values_sized») (λ k h. c .loop-variable .inv .0 k (omega arith)) in
     record {
-      values = each-at (value (c .args .input .now .bytes .now)) (c .loop-variable .ready .values) (pos 0) (c .loop-variable .ready .«values_sized») (λ k h. c .loop-variable .inv .0 k (omega arith));
-      levels = c .loop-variable .inv .1;
-      same-lattice = c .loop-variable .inv .2;
+      state = λ i. record { levels = c .loop-variable .inv .1 i; values = values i; program = c .loop-variable .inv .2 i };
+      same-lattice = c .loop-variable .inv .3;
     }

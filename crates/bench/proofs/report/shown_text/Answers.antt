@@ -11,8 +11,8 @@ returns-in-Ok g c =
     let o = g .L·Lattice .order (c .args .ready .now .lattice) in
     let s = ready-state (c .args .ready .now) in
     let told = was-shown o s (c .args .observer) (c .in-Ok .count) (c .args .buffer .now) (c .show .last .buffer) (c .in-Ok .ensures tt .outcome) in
-    let same = shown-is o s (c .args .observer) (c .in-Ok .count) (drop (5 * c .in-Ok .count) (c .args .buffer .now)) (c .show .last .buffer) (told .0) (told .1) (told .2) in
-    rw same at (c .sheet-text .ensures)
+    let same = shown-is o (c .args .mounted) s (c .args .observer) (c .in-Ok .count) (drop (5 * c .in-Ok .count) (c .args .buffer .now)) (c .show .last .buffer) (told .0) (told .1) (told .2) in
+    rw same at (c .report-text .ensures)
 
 pub returns-in-Err : need.returns-in-Err
 returns-in-Err g c =
