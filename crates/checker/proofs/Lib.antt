@@ -1,7 +1,10 @@
+pub mod Decided
 pub mod DecodeFacts
 pub mod EntryFacts
 pub mod FirstFacts
+pub mod Judgement
 pub mod KindFacts
 pub mod LeavingFacts
 pub mod RegionFacts
+pub mod RegionSet
 pub mod VerdictFacts

@@ -4,3 +4,4 @@ pub mod Region
 pub mod Verdict
 pub mod Faults
 pub mod Of
+pub mod WellClaimed

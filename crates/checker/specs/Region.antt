@@ -3,9 +3,10 @@ use mathlib.Core.Path.{_≡_}
 use mathlib.Core.Logic.{_≢_}
 use mathlib.Core.Bool.{Bool, true, false, cond}
 use mathlib.Core.List.{List, [], _∷_}
-use Prim.Native.Nat.{ℕ, suc, zero}
+use Prim.Native.Nat.{ℕ, suc, zero, _≤_}
 use lib.Dec.{eqb}
 use lib.ListN.{getD, set, length, replicate}
+use Rattle.std.specs.Orderings.{Decides}
 use Rattle.std.specs.declared.option.Option.{Option}
 use Rattle.std.specs.declared.option.Option.the-variants.{Some, None}
 use Rattle.push.specs.declared.instruction.Instruction.{Instruction}
@@ -49,3 +50,8 @@ spread-times code junction (suc k) marks = spread-below code junction (length co
 -- Every round but the last marks one more of the 129 labels, so 130 rounds are enough.
 abbrev pub region : List Instruction → ℕ → ℕ → List Bool
 region code junction branch = spread-times code junction 130 (mark-all junction (next-labels code branch) (replicate 129 false))
+
+-- Both are the same set, for every program that can be mounted.
+abbrev pub Marks-are-the-region : Type 0
+Marks-are-the-region =
+    (code : List Instruction) (junction branch label : ℕ) → length code ≤ 128 → label ≤ 128 → Decides (getD (region code junction branch) label false) (Region code junction branch label)

@@ -10,6 +10,8 @@ ghost use Rattle.checker.specs.Faults.{mount-answer};
 ghost use Rattle.checker.specs.Rules.{label-rule, exit};
 ghost use Rattle.checker.specs.Verdict.{claimed-job, first-below, instruction-rule, claim-rule, branch-rule, code-below, rules-verdict, decoded-code, verdict as verdict-of};
 ghost use Rattle.checker.specs.Of.{levels-of, job-of};
+ghost use Rattle.checker.specs.Region.{Marks-are-the-region};
+ghost use Rattle.checker.specs.WellClaimed.{Judged};
 use crate::fault::MountFault;
 use crate::fault::Rule;
 use crate::rules::Rules;
@@ -103,8 +105,8 @@ fn check_rules<'x, L: Lattice>(
     rules.check_claims()
 }
 
-// The verdict on a job over a lattice and the levels of the variables, and the program where it is accepted.
-pub fn check<L: Lattice>(lattice: &L, levels: &[u16], bytes: &[u8]) -> Result<Program, MountFault>
+// The first rule that a job breaks, or its program.
+fn judge_bytes<L: Lattice>(lattice: &L, levels: &[u16], bytes: &[u8]) -> Result<Program, MountFault>
     ensures verdict { λ r. ⌜ mount-answer r ≡ verdict-of (L·Lattice .order (now (lattice .entry))) (now (levels .entry)) (now (bytes .entry)) ⌝ }
     ensures program { λ r. ⌜ made r (λ p. code p ≡ decoded-code (now (bytes .entry)) (opening (now (bytes .entry)))) ⌝ }
 {
@@ -118,4 +120,14 @@ pub fn check<L: Lattice>(lattice: &L, levels: &[u16], bytes: &[u8]) -> Result<Pr
         Ok(()) => Ok(program),
         Err(fault) => Err(fault),
     }
+}
+
+// The verdict on a job over a lattice and the levels of the variables, and the program where it is accepted.
+pub fn check<L: Lattice>(lattice: &L, levels: &[u16], bytes: &[u8]) -> Result<Program, MountFault>
+    ensures verdict { λ r. ⌜ mount-answer r ≡ verdict-of (L·Lattice .order (now (lattice .entry))) (now (levels .entry)) (now (bytes .entry)) ⌝ }
+    ensures program { λ r. ⌜ made r (λ p. code p ≡ decoded-code (now (bytes .entry)) (opening (now (bytes .entry)))) ⌝ }
+    ensures judged { λ _. ⌜ Judged (L·Lattice .order (now (lattice .entry))) (now (levels .entry)) (now (bytes .entry)) ⌝ }
+    ensures marks_are_the_region { λ _. ⌜ Marks-are-the-region ⌝ }
+{
+    judge_bytes(lattice, levels, bytes)
 }

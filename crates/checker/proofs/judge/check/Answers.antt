@@ -1,29 +1,11 @@
-use mathlib.Core.Path.{_∙_, ap}
-use Rattle.push.specs.Code.{code}
-use Rattle.job.specs.Of.{sizes}
-use Rattle.checker.specs.Verdict.{code-below, decoded-code}
-use Rattle.checker.proofs.VerdictFacts.{by-rules-alone}
+use Rattle.checker.proofs.Judgement.{judged}
+use Rattle.checker.proofs.RegionSet.{marks-are-the-region}
 use Rattle.checker.proofs.judge.check.Needs as need
 
-pub returns-in-Ok-check-rules : need.returns-in-Ok-check-rules
-returns-in-Ok-check-rules g c =
-    let o = g .L·Lattice .order (c .args .lattice .now) in
-    let job = c .in-Ok .job in
-    let bytes = c .args .bytes .now in
-    let read = c .in-Ok .ensures tt in
-    let decoded = c .in-Continue-program .ensures tt in
-    let judged = by-rules-alone o (c .args .levels .now) bytes (job .bytes .now) (sizes job) (code (c .in-Continue-program .program)) _ (read .bytes) (read .sizes) (decoded .verdict) (c .in-Continue-check-records .ensures tt) (decoded .program) (c .in-Ok-check-rules .ensures tt) in
-    record {
-      verdict = judged;
-      program = decoded .program ∙ ap (λ held. code-below held (sizes job) (sizes job .instructions)) (read .bytes) ∙ ap (decoded-code bytes) (read .sizes);
-    }
-
-pub returns-in-Err-check-rules : need.returns-in-Err-check-rules
-returns-in-Err-check-rules g c =
-    let o = g .L·Lattice .order (c .args .lattice .now) in
-    let job = c .in-Ok .job in
-    let bytes = c .args .bytes .now in
-    let read = c .in-Ok .ensures tt in
-    let decoded = c .in-Continue-program .ensures tt in
-    let judged = by-rules-alone o (c .args .levels .now) bytes (job .bytes .now) (sizes job) (code (c .in-Continue-program .program)) _ (read .bytes) (read .sizes) (decoded .verdict) (c .in-Continue-check-records .ensures tt) (decoded .program) (c .in-Err-check-rules .ensures tt) in
-    record { verdict = judged; program = tt }
+pub returns : need.returns
+returns g c = record {
+  verdict = c .judge-bytes .ensures .verdict;
+  program = c .judge-bytes .ensures .program;
+  judged = judged (g .L·Lattice .order (c .args .lattice .now)) (c .args .levels .now) (c .args .bytes .now);
+  marks-are-the-region = marks-are-the-region;
+}
