@@ -3,7 +3,7 @@ use mathlib.Core.Bool.{Bool, true, false, cond, _&&_}
 use mathlib.Core.List.{List, [], _∷_, _++_}
 use Prim.Native.Nat.{ℕ, suc, zero, _+_, _-_}
 use lib.Dec.{leb}
-use lib.ListN.{length, drop}
+use lib.ListN.{length}
 use Rattle.std.specs.declared.option.Option.{Option}
 use Rattle.std.specs.declared.option.Option.the-variants.{Some, None}
 use Rattle.push.specs.declared.instruction.Instruction.{Instruction}
@@ -84,7 +84,3 @@ begins (k ∷ ks) (l ∷ kinds) = same-kind k l && begins ks kinds
 -- Whether an instruction runs on a stack of these kinds: it finds what it pops, and no ninth place is needed.
 abbrev pub runs-on : Instruction → List Kind → Bool
 runs-on i kinds = begins (pops i) kinds && leb (length (optional (pushes i)) + (length kinds - length (pops i))) 8
-
--- The kinds that it leaves then.
-abbrev pub kinds-after : Instruction → List Kind → List Kind
-kinds-after i kinds = optional (pushes i) ++ drop (length (pops i)) kinds
