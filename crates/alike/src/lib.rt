@@ -1,5 +1,7 @@
 // Lists of calls that are alike for an observer, over each kind of lattice of the bench: where both runs halt, the
 // observer gets the same sheet, and the highest level does not.
+#![tactic(auto)]
+
 #[cfg(test)]
 mod tests {
     use controller::{Answer, Call, Ending, Sheet, transcript};

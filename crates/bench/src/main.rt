@@ -1,4 +1,6 @@
 // The bench: standard input to a report of what an observer may see.
+#![tactic(auto)]
+
 mod input;
 mod report;
 

@@ -1,4 +1,6 @@
 // The verdict on a job and a run of it for C: numbers and bytes alone cross.
+#![tactic(auto)]
+
 ghost use Rattle.std.specs.Prelude.{◌≡◌, IfOk};
 ghost use Rattle.push.specs.Code.{code};
 ghost use Rattle.push.specs.Run.{begun, run};

@@ -1,4 +1,6 @@
 // The rules of claims over any lattice, and the verdict on a job.
+#![tactic(auto)]
+
 mod branches;
 mod claims;
 mod fault;

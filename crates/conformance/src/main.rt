@@ -1,4 +1,6 @@
 // The conformance program: runs the report on each case of a table and says which agreed.
+#![tactic(auto)]
+
 mod table;
 mod tally;
 mod verdict;

@@ -1,4 +1,6 @@
 // The controller: variables with levels and values, its states as types, runs, and the sheet that an observer may see.
+#![tactic(auto)]
+
 mod answer;
 mod call;
 mod ending;

@@ -1,4 +1,6 @@
 // The bytes of a job: its opening, its records as parts of the caller's bytes, and what a record says.
+#![tactic(auto)]
+
 mod claim;
 mod fault;
 mod instruction;

@@ -1,5 +1,7 @@
 // Lattices of levels: six questions about a finite order, one meaning and one law for all who answer them, and the
 // kinds that suppliers use.
+#![tactic(auto)]
+
 mod flip;
 mod ladder;
 mod lattice;

@@ -1,4 +1,6 @@
 // The bench's work: from the bytes of an input to a list of calls, and from its transcript to the text of a report.
+#![tactic(auto)]
+
 mod calls;
 mod input;
 mod kinds;

@@ -1,4 +1,6 @@
 // Trials of mount: at least one job for every answer, and the ends of a job's sizes.
+#![tactic(auto)]
+
 #[cfg(test)]
 mod tests {
     use checker::check as mount;

@@ -9,7 +9,7 @@ returns g c =
     let o = g.A.Lattice.order c.args.self.now.first in
     let p = g.B.Lattice.order c.args.self.now.second in
     let code = c.args.code in
-    let test : ltb code (pair_span o p) ≡ true = sym c.is-level.ensures ∙ c.if-not-is-level.false in
+    let test : ltb code (pair_span o p) ≡ true = sym c.is_level.ensures ∙ c.if-not-is_level.false in
     let level : code < pair_span o p = ltb-true code (pair_span o p) test in
     record {
       value = rw (c.from-code.ensures, c.span-row.ensures, test);
