@@ -18,7 +18,7 @@ loop-variable-preserved g c =
     let n = c.loop-variable.variable in
     let before = c.loop-variable.setup in
     let same = c.loop-variable.invariant.2 in
-    let told = graded (g.L.Lattice.order before.lattice) (setup_state before) (setup_state c.grade.new.self) n c.level.result c.grade.result c.loop-variable-test.true (sym c.if-is-err.ensures.value) c.grade.ensures.outcome in
+    let told = graded (g.L.Lattice.order before.lattice) (setup_state before) (setup_state c.grade.new.self) n c.level.result c.grade.result c.loop-variable-test.true (sym c.if-is_err.ensures.value) c.grade.ensures.outcome in
     let levels = told.1 ∙ ap (set before.levels n) c.level.ensures in
     let within : n < length before.levels = omega (arith, before.sized) in
     let level_is : level bytes n < o.span = rw (c.level.ensures, same) at told.0 in
@@ -33,14 +33,14 @@ returns g c =
       same_lattice = c.loop-variable.invariant.2;
     }
 
-pub returns-then-is-err : goal.returns-then-is-err
-returns-then-is-err g c =
+pub returns-then-is_err : goal.returns-then-is_err
+returns-then-is_err g c =
     let o = g.L.Lattice.order c.args.setup.now.lattice in
     let bytes = c.args.input.now.bytes.now in
     let n = c.loop-variable.variable in
     let before = c.loop-variable.setup in
     let same = c.loop-variable.invariant.2 in
-    let told = not_graded (g.L.Lattice.order before.lattice) (setup_state before) (setup_state c.grade.new.self) n c.level.result c.grade.result c.loop-variable-test.true (sym c.if-is-err.ensures.value) c.grade.ensures.outcome in
+    let told = not_graded (g.L.Lattice.order before.lattice) (setup_state before) (setup_state c.grade.new.self) n c.level.result c.grade.result c.loop-variable-test.true (sym c.if-is_err.ensures.value) c.grade.ensures.outcome in
     let no_level : o.span ≤ level bytes n = rw (c.level.ensures, same) at told in
     record {
       test = sym (all_spoilt (λ variable. ltb (level bytes variable) o.span) n 32 (le-ltb (level bytes n) o.span no_level) c.loop-variable-test.true);

@@ -4,4 +4,4 @@ use Rattle.bench.proofs.report.sheet_text.Goals as goal
 
 pub returns : goal.returns
 returns c =
-    c.in-ok-push-rows.ensures ∙ ap (λ text. text ++ rows c.args.sheet.now) c.in-ok-text.ensures.ok ∙ simp append_assoc
+    c.in_ok-push_rows.ensures ∙ ap (λ text. text ++ rows c.args.sheet.now) c.in_ok-text.ensures.ok ∙ simp append_assoc

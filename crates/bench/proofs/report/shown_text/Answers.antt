@@ -10,7 +10,7 @@ returns-in-Ok g c =
     let s = ready_state c.args.ready.now in
     let told = was_shown o s c.args.observer c.in-Ok.count c.args.buffer.now c.show.new.buffer c.in-Ok.ensures.outcome in
     let same = shown_is o c.args.mounted s c.args.observer c.in-Ok.count (drop (5 * c.in-Ok.count) c.args.buffer.now) c.show.new.buffer told.0 told.1 told.2 in
-    rw same at c.report-text.ensures
+    rw same at c.report_text.ensures
 
 pub returns-in-Err : goal.returns-in-Err
 returns-in-Err g c =

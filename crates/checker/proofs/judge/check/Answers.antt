@@ -8,8 +8,8 @@ returns g c =
     let order = g.L.Lattice.order c.args.lattice.now in
     let laws = g.met.L.Lattice.lawful c.args.lattice.now in
     record {
-      verdict = c.judge-bytes.ensures.verdict;
-      program = c.judge-bytes.ensures.program;
+      verdict = c.judge_bytes.ensures.verdict;
+      program = c.judge_bytes.ensures.program;
       judged = judged order c.args.levels.now c.args.bytes.now;
       marks_are_the_region = marks_are_the_region;
       accepted_jobs_never_fault = accepted_jobs_never_fault order c.args.levels.now c.args.bytes.now laws;

@@ -9,7 +9,7 @@ pub returns : goal.returns
 unfolding agrees
 returns c =
     let expected = c.args.case.now.expected.now in
-    let given = c.as-bytes.ensures.value ∙ c.in-ok-given.ensures in
+    let given = c.as_bytes.ensures.value ∙ c.in_ok-given.ensures in
     same_from_decides _ _
     (subst (λ text. Decides c.eq.result (text ≡ expected)) given (slice_eq-Decides _ expected _ c.eq.ensures))
     (bytes_eq-Decides (report c.args.case.now.input.now) expected)

@@ -25,13 +25,13 @@ loop-case-preserved c =
     let trial = case_bytes c.in-Some.case in
     let was = was_some c.loop-case.rest.now trial c.in-Some.after.now c.in-Some.ensures in
     let left = ap left_over was.2 ∙ sym (left_more c.loop-case.rest.now was.0) in
-    (turn (tally_found c.loop-case.tally) (tally_found c.note.new.self) _ c.loop-case.rest.now c.in-Some.after.now trial c.in-ok-agreed.agreed c.in-Some.ensures c.in-ok-agreed.ensures c.note.ensures c.loop-case.invariant.0, left ∙ c.loop-case.invariant.1)
+    (turn (tally_found c.loop-case.tally) (tally_found c.note.new.self) _ c.loop-case.rest.now c.in-Some.after.now trial c.in_ok-agreed.agreed c.in-Some.ensures c.in_ok-agreed.ensures c.note.ensures c.loop-case.invariant.0, left ∙ c.loop-case.invariant.1)
 
 pub returns : goal.returns
 returns c =
     let so_far = tally_found c.loop-case.tally in
     let rest = c.loop-case.rest.now in
-    let none = was_none rest c.in-default.ensures in
+    let none = was_none rest c.in_default.ensures in
     record {
       found = sym (onward_none so_far) ∙ ap (onward so_far) (sym (cases_none rest none)) ∙ c.loop-case.invariant.0;
       left = ap length (sym (left_none rest none) ∙ c.loop-case.invariant.1);

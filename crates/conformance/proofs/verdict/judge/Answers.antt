@@ -7,14 +7,14 @@ use Rattle.conformance.proofs.verdict.judge.Goals as goal
 
 pub returns : goal.returns
 returns c =
-    let tally = c.in-ok-tally.tally in
-    let found_is = c.in-ok-tally.ensures.found in
-    let left_is = c.in-ok-tally.ensures.left in
+    let tally = c.in_ok-tally.tally in
+    let found_is = c.in_ok-tally.ensures.found in
+    let left_is = c.in_ok-tally.ensures.left in
     let differs = difference_text (difference tally.differs) in
-    let counts = c.in-ok-text.ensures.items ∙ c.as-bytes.ensures.value ∙ c.in-ok-counts.ensures in
-    let left = c.as-bytes-2.ensures.value ∙ c.in-ok-left.ensures in
-    let parts = after_two (vec_items c.in-ok-text.text) _ _ differs (left_text tally.left) c.in-ok-push-difference.ensures (c.in-ok-extend-from-slice.ensures.items ∙ ap (λ text. vec_items c.push-difference.new.summary ++ text) left) in
-    let passed = c.is-clean.ensures ∙ ap₂ clean found_is left_is in
+    let counts = c.in_ok-text.ensures.items ∙ c.as_bytes.ensures.value ∙ c.in_ok-counts.ensures in
+    let left = c.as_bytes-2.ensures.value ∙ c.in_ok-left.ensures in
+    let parts = after_two (vec_items c.in_ok-text.text) _ _ differs (left_text tally.left) c.in_ok-push_difference.ensures (c.in_ok-extend_from_slice.ensures.items ∙ ap (λ text. vec_items c.push_difference.new.summary ++ text) left) in
+    let passed = c.is_clean.ensures ∙ ap₂ clean found_is left_is in
     record {
       passed = passed;
       conforms = λ h. passes_conforms c.args.table.now (sym passed ∙ h);

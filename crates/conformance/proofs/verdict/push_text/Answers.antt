@@ -7,5 +7,5 @@ pub returns : goal.returns
 returns c =
     let before = vec_items c.args.summary.now in
     let text = c.args.text.now in
-    let line = c.as-bytes.ensures.value ∙ c.in-ok-heading.ensures.ok in
-    after_two before _ _ (heading c.args.name.now (length text)) text (c.in-ok-extend-from-slice.ensures.items ∙ ap (λ bytes. before ++ bytes) line) c.in-ok-extend-from-slice-2.ensures.items
+    let line = c.as_bytes.ensures.value ∙ c.in_ok-heading.ensures.ok in
+    after_two before _ _ (heading c.args.name.now (length text)) text (c.in_ok-extend_from_slice.ensures.items ∙ ap (λ bytes. before ++ bytes) line) c.in_ok-extend_from_slice-2.ensures.items

@@ -7,11 +7,11 @@ pub loop-place-init : goal.loop-place-init
 loop-place-init c = all_none _
 
 pub loop_place_preserved : goal.loop_place_preserved
-loop_place_preserved c = all_more (like_a_place c.args.span c.args.record.now) c.loop-place.place c.loop-place.invariant (sym c.if-not-is-place.ensures)
+loop_place_preserved c = all_more (like_a_place c.args.span c.args.record.now) c.loop-place.place c.loop-place.invariant (sym c.if-not-is_place.ensures)
 
-pub returns-then-not-is-place : goal.returns-then-not-is-place
-returns-then-not-is-place c =
-    sym (all_spoilt (like_a_place c.args.span c.args.record.now) c.loop-place.place c.args.depth (sym c.if-not-is-place.ensures) (omega arith))
+pub returns-then-not-is_place : goal.returns-then-not-is_place
+returns-then-not-is_place c =
+    sym (all_spoilt (like_a_place c.args.span c.args.record.now) c.loop-place.place c.args.depth (sym c.if-not-is_place.ensures) (omega arith))
 
 pub returns : goal.returns
 returns c = let all : c.loop-place.place ≡ c.args.depth = omega arith in sym (rw all at c.loop-place.invariant)

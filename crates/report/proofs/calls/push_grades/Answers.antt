@@ -11,7 +11,7 @@ loop_variable_init c = none_yet (λ v. grade v (level c.args.input.now.bytes.now
 pub loop-variable-preserved : goal.loop-variable-preserved
 loop-variable-preserved c =
     let n = c.loop-variable.variable in
-    one_more (λ v. grade v (level c.args.input.now.bytes.now v)) _ (vec_items c.loop-variable.calls) (vec_items c.push.new.self) n _ c.loop-variable.invariant c.in-ok-push.ensures.items (ap (grade n) c.level.ensures)
+    one_more (λ v. grade v (level c.args.input.now.bytes.now v)) _ (vec_items c.loop-variable.calls) (vec_items c.push.new.self) n _ c.loop-variable.invariant c.in_ok-push.ensures.items (ap (grade n) c.level.ensures)
 
 pub returns : goal.returns
 returns c =

@@ -12,7 +12,7 @@ pub loop-variable-preserved : goal.loop-variable-preserved
 loop-variable-preserved c =
     let n = c.loop-variable.variable in
     let fits : SFits w32 c.value.result = search rules in
-    one_more (λ v. set v (value c.args.input.now.bytes.now v)) _ (vec_items c.loop-variable.calls) (vec_items c.push.new.self) n _ c.loop-variable.invariant (simp to_z-of_z at c.in-ok-push.ensures.items) (ap (set n) c.value.ensures)
+    one_more (λ v. set v (value c.args.input.now.bytes.now v)) _ (vec_items c.loop-variable.calls) (vec_items c.push.new.self) n _ c.loop-variable.invariant (simp to_z-of_z at c.in_ok-push.ensures.items) (ap (set n) c.value.ensures)
 
 pub returns : goal.returns
 returns c =

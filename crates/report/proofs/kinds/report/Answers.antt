@@ -18,7 +18,7 @@ returns-in-1 c =
     let byte = ap kind (sym c.byte.ensures ∙ c.in-1.is) in
     let order = c.new-in-1.ensures.meaning in
     rw (sym c.if-not-fits.ensures, byte)
-    (subst (λ o. IfOk c.report-over-in-1.result (λ t. string_bytes t ≡ report_over o bytes)) order c.report-over-in-1.ensures)
+    (subst (λ o. IfOk c.report_over-in-1.result (λ t. string_bytes t ≡ report_over o bytes)) order c.report_over-in-1.ensures)
 
 pub returns-in-2 : goal.returns-in-2
 returns-in-2 c =
@@ -27,4 +27,4 @@ returns-in-2 c =
     let second = c.new-in-2-3.ensures.meaning ∙ ap flip c.new-in-2-2.ensures.meaning in
     let order = c.new-in-2-4.ensures.meaning ∙ ap₂ pair c.new-in-2.ensures.meaning second in
     rw (sym c.if-not-fits.ensures, byte)
-    (subst (λ o. IfOk c.report-over-in-2.result (λ t. string_bytes t ≡ report_over o bytes)) order c.report-over-in-2.ensures)
+    (subst (λ o. IfOk c.report_over-in-2.result (λ t. string_bytes t ≡ report_over o bytes)) order c.report_over-in-2.ensures)

@@ -11,8 +11,8 @@ loop-lines-smaller c =
 pub loop-lines-preserved : goal.loop-lines-preserved
 loop-lines-preserved c =
     let long : 5 ≤ length c.loop-lines.lines.now = omega (arith, ltb-false) in
-    let fits : SFits w32 c.from-le-bytes.result = search rules in
-    rows_turn _ _ _ c.loop-lines.lines.now _ long c.loop-lines.invariant c.from-le-bytes.ensures (simp to_z-of_z at c.in-ok-push-row.ensures)
+    let fits : SFits w32 c.from_le_bytes.result = search rules in
+    rows_turn _ _ _ c.loop-lines.lines.now _ long c.loop-lines.invariant c.from_le_bytes.ensures (simp to_z-of_z at c.in_ok-push_row.ensures)
 
 pub returns : goal.returns
 returns c =

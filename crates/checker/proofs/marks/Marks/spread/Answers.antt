@@ -16,7 +16,7 @@ loop-label-preserved c =
     let so_far = c.loop-label.self.at in
     elim c.if-has.branch [
       | then-has w ↦
-          ap (λ m. m.at) w.self-is ∙ w.mark-next.ensures
+          ap (λ m. m.at) w.self-is ∙ w.mark_next.ensures
           ∙ spread_marked is j start c.loop-label.label so_far c.loop-label.invariant (sym w.if-has.ensures)
       | else-has w ↦ ap (λ m. m.at) w.self-is ∙ spread_unmarked is j start c.loop-label.label so_far c.loop-label.invariant (sym w.if-has.ensures)
     ]

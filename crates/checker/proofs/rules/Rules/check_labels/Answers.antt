@@ -11,7 +11,7 @@ pub loop-label-preserved : goal.loop-label-preserved
 loop-label-preserved g c =
     let self = c.args.self.now in
     let o = g.L.Lattice.order self.lattice.now in
-    first_more (label_rule o (levels_of self) (job_of self)) c.loop-label.label c.loop-label.invariant (sym c.in-default.ensures)
+    first_more (label_rule o (levels_of self) (job_of self)) c.loop-label.label c.loop-label.invariant (sym c.in_default.ensures)
 
 pub returns-in-Err : goal.returns-in-Err
 returns-in-Err g c =

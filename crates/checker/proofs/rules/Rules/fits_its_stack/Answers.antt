@@ -13,7 +13,7 @@ returns-then-begins g c =
     let says = claim_says self.job c.args.claim in
     let i = c.args.instruction in
     let depth : c.from.result ≡ length (optional (pushes i)) + (length (map kind says.stack) - length (pops i)) =
-    c.from.ensures ∙ c.leaving-depth.ensures.value ∙ leaves_length (g.L.Lattice.order self.lattice.now) (levels_of self) says i
+    c.from.ensures ∙ c.leaving_depth.ensures.value ∙ leaves_length (g.L.Lattice.order self.lattice.now) (levels_of self) says i
     ∙ ap (λ n. length (optional (pushes i)) + (n - length (pops i))) (sym (length-map says.stack kind)) in
     let found : begins (pops i) (map kind says.stack) ≡ true =
     ap (λ ks. begins ks (map kind says.stack)) (sym c.pops.ensures) ∙ sym c.if-begins.ensures in

@@ -13,19 +13,19 @@ returns-then-depth-from g c =
     let o = g.L.Lattice.order self.lattice.now in
     let left = leaves o (levels_of self) (claim_says self.job c.args.claim) c.args.instruction in
     let deep = stack_length (record_of self.job c.args.next) c.args.next.depth in
-    sym (lengths_differ o left (claim_says self.job c.args.next).stack (λ e. c.if-depth-from.true (c.leaving-depth-depth.ensures.value ∙ e ∙ deep ∙ sym c.from.ensures)))
+    sym (lengths_differ o left (claim_says self.job c.args.next).stack (λ e. c.if-depth-from.true (c.leaving_depth-depth.ensures.value ∙ e ∙ deep ∙ sym c.from.ensures)))
 
-pub returns-then-not-fits-under : goal.returns-then-not-fits-under
-returns-then-not-fits-under g c =
+pub returns-then-not-fits_under : goal.returns-then-not-fits_under
+returns-then-not-fits_under g c =
     let self = c.args.self.now in
     let o = g.L.Lattice.order self.lattice.now in
     let left = leaves o (levels_of self) (claim_says self.job c.args.claim) c.args.instruction in
     let taken = (claim_says self.job c.args.next).stack in
     let n = c.loop-place.place in
     let deep = stack_length (record_of self.job c.args.next) c.args.next.depth in
-    let within : n < length left = omega (arith, c.leaving-depth-depth.ensures.value) in
+    let within : n < length left = omega (arith, c.leaving_depth-depth.ensures.value) in
     let under : n < length taken = omega (arith, deep, c.from.ensures) in
-    let fails = ap₂ (fits_under o) (sym (c.leaving-leaving.ensures within)) (sym c.place.ensures) ∙ sym c.if-not-fits-under.ensures in
+    let fails = ap₂ (fits_under o) (sym (c.leaving-leaving.ensures within)) (sym c.place.ensures) ∙ sym c.if-not-fits_under.ensures in
     sym (fit_no_more o left taken n (IntegerAt 0) within under fails) ∙ c.loop-place.invariant
 
 pub loop_place_preserved : goal.loop_place_preserved
@@ -36,9 +36,9 @@ loop_place_preserved g c =
     let taken = (claim_says self.job c.args.next).stack in
     let n = c.loop-place.place in
     let deep = stack_length (record_of self.job c.args.next) c.args.next.depth in
-    let within : n < length left = omega (arith, c.leaving-depth-depth.ensures.value) in
+    let within : n < length left = omega (arith, c.leaving_depth-depth.ensures.value) in
     let under : n < length taken = omega (arith, deep, c.from.ensures) in
-    let fits = ap₂ (fits_under o) (sym (c.leaving-leaving.ensures within)) (sym c.place.ensures) ∙ sym c.if-not-fits-under.ensures in
+    let fits = ap₂ (fits_under o) (sym (c.leaving-leaving.ensures within)) (sym c.place.ensures) ∙ sym c.if-not-fits_under.ensures in
     sym (fit_so_far o left taken n (IntegerAt 0) within under fits) ∙ c.loop-place.invariant
 
 pub returns : goal.returns
@@ -48,4 +48,4 @@ returns g c =
     let left = leaves o (levels_of self) (claim_says self.job c.args.claim) c.args.instruction in
     let taken = (claim_says self.job c.args.next).stack in
     let deep = stack_length (record_of self.job c.args.next) c.args.next.depth in
-    sym (fit_to_end o left taken c.loop-place.place (omega (arith, c.leaving-depth-depth.ensures.value)) (omega (arith, deep, c.from.ensures))) ∙ c.loop-place.invariant
+    sym (fit_to_end o left taken c.loop-place.place (omega (arith, c.leaving_depth-depth.ensures.value)) (omega (arith, deep, c.from.ensures))) ∙ c.loop-place.invariant

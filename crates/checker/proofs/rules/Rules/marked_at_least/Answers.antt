@@ -11,12 +11,12 @@ loop_label_init g c = all_none _
 pub loop-label-preserved : goal.loop-label-preserved
 loop-label-preserved g c =
     let self = c.args.self.now in
-    all_more (is_clear (g.L.Lattice.order self.lattice.now) (job_of self) c.args.guard c.args.marks.now.at) c.loop-label.label c.loop-label.invariant (sym c.if-not-is-clear.ensures)
+    all_more (is_clear (g.L.Lattice.order self.lattice.now) (job_of self) c.args.guard c.args.marks.now.at) c.loop-label.label c.loop-label.invariant (sym c.if-not-is_clear.ensures)
 
-pub returns-then-not-is-clear : goal.returns-then-not-is-clear
-returns-then-not-is-clear g c =
+pub returns-then-not-is_clear : goal.returns-then-not-is_clear
+returns-then-not-is_clear g c =
     let self = c.args.self.now in
-    sym (all_spoilt (is_clear (g.L.Lattice.order self.lattice.now) (job_of self) c.args.guard c.args.marks.now.at) c.loop-label.label (exit (job_of self)) (sym c.if-not-is-clear.ensures) (omega (arith, c.len-label-end.ensures)))
+    sym (all_spoilt (is_clear (g.L.Lattice.order self.lattice.now) (job_of self) c.args.guard c.args.marks.now.at) c.loop-label.label (exit (job_of self)) (sym c.if-not-is_clear.ensures) (omega (arith, c.len-label-end.ensures)))
 
 pub returns : goal.returns
 returns g c =

@@ -2,7 +2,7 @@ use Rattle.std.proofs.Common.{◌++◌, get_or, pos, sym, ap, arith, to_z-of_z, 
 use Rattle.controller.specs.Of.{ready_state}
 use Rattle.controller.proofs.SheetFacts.{open_none, lines_none, room, open_turn, closed_turn}
 use Rattle.controller.proofs.ready.Ready.write_open.Goals as goal
-use Rattle.controller.proofs.ready.Ready.write_open.Goals.{then-is-open, else-is-open}
+use Rattle.controller.proofs.ready.Ready.write_open.Goals.{then-is_open, else-is_open}
 
 pub loop_variable_init : goal.loop_variable_init
 loop_variable_init g c =
@@ -10,19 +10,19 @@ loop_variable_init g c =
     let s = ready_state c.args.self.now in
     (omega (arith, open_none o s c.args.observer), ap (λ front. front ++ c.args.buffer.now) (sym (lines_none o s c.args.observer)))
 
-pub overflow-add-at : goal.overflow-add-at
-overflow-add-at g c =
-    let fits = room (g.L.Lattice.order c.args.self.now.lattice) (ready_state c.args.self.now) c.args.observer c.loop-variable.variable c.loop-variable-test.true (sym c.if-is-open.ensures) in
+pub overflow_add-at : goal.overflow_add-at
+overflow_add-at g c =
+    let fits = room (g.L.Lattice.order c.args.self.now.lattice) (ready_state c.args.self.now) c.args.observer c.loop-variable.variable c.loop-variable-test.true (sym c.if-is_open.ensures) in
     omega arith
 
-pub slice-bounds-write-line-end : goal.slice-bounds-write-line-end
-slice-bounds-write-line-end g c =
-    let fits = room (g.L.Lattice.order c.args.self.now.lattice) (ready_state c.args.self.now) c.args.observer c.loop-variable.variable c.loop-variable-test.true (sym c.if-is-open.ensures) in
+pub slice_bounds-write_line-end : goal.slice_bounds-write_line-end
+slice_bounds-write_line-end g c =
+    let fits = room (g.L.Lattice.order c.args.self.now.lattice) (ready_state c.args.self.now) c.args.observer c.loop-variable.variable c.loop-variable-test.true (sym c.if-is_open.ensures) in
     search rules
 
-pub overflow-add-at-then-is-open : goal.overflow-add-at-then-is-open
-overflow-add-at-then-is-open g c =
-    let fits = room (g.L.Lattice.order c.args.self.now.lattice) (ready_state c.args.self.now) c.args.observer c.loop-variable.variable c.loop-variable-test.true (sym c.if-is-open.ensures) in
+pub overflow_add-at-then-is_open : goal.overflow_add-at-then-is_open
+overflow_add-at-then-is_open g c =
+    let fits = room (g.L.Lattice.order c.args.self.now.lattice) (ready_state c.args.self.now) c.args.observer c.loop-variable.variable c.loop-variable-test.true (sym c.if-is_open.ensures) in
     omega arith
 
 pub loop-variable-preserved : goal.loop-variable-preserved
@@ -33,10 +33,10 @@ loop-variable-preserved g c =
     let at = c.loop-variable.at in
     let old = c.args.buffer.now in
     let inv = c.loop-variable.invariant in
-    elim c.if-is-open.branch [
-      | then-is-open w ↦
+    elim c.if-is_open.branch [
+      | then-is_open w ↦
           let fits : SFits w32 (get_or s.values n (pos 0)) = search rules in
-          let line = simp to_z-of_z at w.write-line.ensures in
-          rw (w.at-is, w.buffer-is) (open_turn o s c.args.observer n at old c.loop-variable.buffer inv.0 inv.1 w.write-line.new.line line (sym w.if-is-open.ensures))
-      | else-is-open w ↦ rw (w.at-is, w.buffer-is) (closed_turn o s c.args.observer n at old c.loop-variable.buffer inv.0 inv.1 (sym w.if-is-open.ensures))
+          let line = simp to_z-of_z at w.write_line.ensures in
+          rw (w.at-is, w.buffer-is) (open_turn o s c.args.observer n at old c.loop-variable.buffer inv.0 inv.1 w.write_line.new.line line (sym w.if-is_open.ensures))
+      | else-is_open w ↦ rw (w.at-is, w.buffer-is) (closed_turn o s c.args.observer n at old c.loop-variable.buffer inv.0 inv.1 (sym w.if-is_open.ensures))
     ]

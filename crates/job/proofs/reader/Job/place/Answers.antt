@@ -9,5 +9,5 @@ returns_then_place_from c = sym (stack_past (record_of c.args.self.now c.args.cl
 
 pub returns : goal.returns
 returns c =
-    c.place-in.ensures ∙ ap (λ bytes. place_in bytes c.args.place) (rw c.from-2.ensures at c.part.ensures)
+    c.place_in.ensures ∙ ap (λ bytes. place_in bytes c.args.place) (rw c.from-2.ensures at c.part.ensures)
     ∙ sym (stack_within (record_of c.args.self.now c.args.claim) c.args.claim.depth c.args.place _ (omega arith))

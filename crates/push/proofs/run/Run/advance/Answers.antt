@@ -7,11 +7,11 @@ use Rattle.push.proofs.run.Run.advance.Goals as goal
 
 pub returns : goal.returns
 returns c =
-    let made = c.make-steps-steps.ensures.run in
+    let made = c.make_steps-steps.ensures.run in
     record {
       run = made;
       status = refl;
-      same_program = c.make-steps-steps.ensures.same_program;
+      same_program = c.make_steps-steps.ensures.same_program;
       makes_the_machines_steps = rw (sym made) at (run_advances (code c.args.self.now.program) c.args.budget (run_state c.args.self.now));
       new_runs_are_true = new_runs_are_true;
       steps_follow_the_rules = step_follows_the_rules;

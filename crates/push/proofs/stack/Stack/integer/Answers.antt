@@ -7,14 +7,14 @@ use Rattle.push.proofs.stack.Stack.integer.Goals as goal
 pub returns-in-Int : goal.returns-in-Int
 returns-in-Int c =
     let self = c.args.self.now in
-    let held = top_is self _ _ c.if-self-gt-STACK-PLACES.false c.in-Int.is in
+    let held = top_is self _ _ c.if-self-gt-STACK_PLACES.false c.in-Int.is in
     let fits : SFits w32 c.in-Int.t = search rules in
     record {
       value = ap Some (to_z-of_z fits) ∙ sym (ap integer_on held);
-      depth = λ _. (omega (arith, depth self, c.if-self-gt-STACK-PLACES.false), omega (arith, depth self));
+      depth = λ _. (omega (arith, depth self, c.if-self-gt-STACK_PLACES.false), omega (arith, depth self));
     }
 
 pub returns-in-Flag : goal.returns-in-Flag
 returns-in-Flag c =
-    let held = top_is c.args.self.now _ _ c.if-self-gt-STACK-PLACES.false c.in-Flag.is in
+    let held = top_is c.args.self.now _ _ c.if-self-gt-STACK_PLACES.false c.in-Flag.is in
     record { value = sym (ap integer_on held); depth = λ h. absurd (false≢true h) }

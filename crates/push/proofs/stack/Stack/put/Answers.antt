@@ -2,17 +2,17 @@ use Rattle.std.proofs.Common.{◌≡◌, ◌+◌, ◌-◌, ◌%◌, ◌≤◌, l
 use Rattle.push.proofs.StackFacts.{depth, put_held}
 use Rattle.push.proofs.stack.Stack.put.Goals as goal
 
-pub overflow-add-top : goal.overflow-add-top
-overflow-add-top c = let deep = depth c.args.self.now in search rules
+pub overflow_add-top : goal.overflow_add-top
+overflow_add-top c = let deep = depth c.args.self.now in search rules
 
-pub offset-bounds-self-top : goal.offset-bounds-self-top
-offset-bounds-self-top c = let deep = depth c.args.self.now in search rules
+pub offset_bounds-self-top : goal.offset_bounds-self-top
+offset_bounds-self-top c = let deep = depth c.args.self.now in search rules
 
 pub bounds-self-top : goal.bounds-self-top
 bounds-self-top c = let deep = depth c.args.self.now in omega arith
 
-pub invariant-of-self : goal.invariant-of-self
-invariant-of-self c = let deep = depth c.args.self.now in search rules
+pub invariant_of-self : goal.invariant_of-self
+invariant_of-self c = let deep = depth c.args.self.now in search rules
 
 pub returns : goal.returns
 returns c =
