@@ -3,6 +3,6 @@ use Rattle.job.specs.Records.{all_below}
 use Rattle.bench.specs.Input.{level}
 use Rattle.bench.proofs.report.grade_all.Given as goal
 
-abbrev pub invariant_loop_variable : goal.invariant_loop_variable
-invariant_loop_variable g l =
+abbrev pub invariant-loop-variable : goal.invariant-loop-variable
+invariant-loop-variable g l =
     ((k : ℕ) → k < l.variable → get_or l.setup.levels k 0 ≡ level l.input.bytes.now k) × (all_below (λ variable. ltb (level l.input.bytes.now variable) (g.L.Lattice.order l.initial.setup.lattice).span) l.variable ≡ true) × (l.setup.lattice ≡ l.initial.setup.lattice)

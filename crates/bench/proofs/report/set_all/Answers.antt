@@ -6,8 +6,8 @@ use Rattle.bench.specs.Input.{value}
 use Rattle.bench.proofs.Fields.{each_at}
 use Rattle.bench.proofs.report.set_all.Goals as goal
 
-pub loop_variable_init : goal.loop_variable_init
-loop_variable_init g c = (λ k h. absurd (omega arith), refl, refl, refl)
+pub loop-variable-init : goal.loop-variable-init
+loop-variable-init g c = (λ k h. absurd (omega arith), refl, refl, refl)
 
 pub loop-variable-preserved : goal.loop-variable-preserved
 loop-variable-preserved g c =

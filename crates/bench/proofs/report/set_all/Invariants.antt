@@ -3,6 +3,6 @@ use Rattle.push.specs.Code.{code}
 use Rattle.bench.specs.Input.{value}
 use Rattle.bench.proofs.report.set_all.Given as goal
 
-abbrev pub invariant_loop_variable : goal.invariant_loop_variable
-invariant_loop_variable g l =
+abbrev pub invariant-loop-variable : goal.invariant-loop-variable
+invariant-loop-variable g l =
     ((k : ℕ) → k < l.variable → get_or l.ready.values k (pos 0) ≡ value l.input.bytes.now k) × (l.ready.levels ≡ l.initial.ready.levels) × (code l.ready.program ≡ code l.initial.ready.program) × (l.ready.lattice ≡ l.initial.ready.lattice)

@@ -6,8 +6,8 @@ use Rattle.checker.specs.Verdict.{claim_rule}
 use Rattle.checker.proofs.FirstFacts.{first_none, first_more, first_found}
 use Rattle.checker.proofs.judge.check_records.Goals as goal
 
-pub loop_label_init : goal.loop_label_init
-loop_label_init g c = first_none _
+pub loop-label-init : goal.loop-label-init
+loop-label-init g c = first_none _
 
 pub loop-label-preserved : goal.loop-label-preserved
 loop-label-preserved g c =

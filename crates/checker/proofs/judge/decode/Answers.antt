@@ -7,8 +7,8 @@ use Rattle.checker.proofs.DecodeFacts.{code_none, code_more, was_read, not_read}
 use Rattle.checker.proofs.FirstFacts.{first_none, first_more, first_found, record_is_some}
 use Rattle.checker.proofs.judge.decode.Goals as goal
 
-pub loop_label_init : goal.loop_label_init
-loop_label_init c = (first_none _, c.empty-program.ensures ∙ sym (code_none _ _), ap length c.empty-program.ensures)
+pub loop-label-init : goal.loop-label-init
+loop-label-init c = (first_none _, c.empty-program.ensures ∙ sym (code_none _ _), ap length c.empty-program.ensures)
 
 pub loop-label-preserved : goal.loop-label-preserved
 loop-label-preserved c =

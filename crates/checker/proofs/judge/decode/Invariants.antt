@@ -4,8 +4,8 @@ use Rattle.job.specs.Of.{sizes}
 use Rattle.checker.specs.Verdict.{first_below, instruction_rule, code_below}
 use Rattle.checker.proofs.judge.decode.Given as goal
 
-abbrev pub invariant_loop_label : goal.invariant_loop_label
-invariant_loop_label l =
+abbrev pub invariant-loop-label : goal.invariant-loop-label
+invariant-loop-label l =
     let bytes = l.job.bytes.now in
     let s = sizes l.job in
     (first_below (instruction_rule bytes s) l.label ≡ (0, 0)) × (code l.program ≡ code_below bytes s l.label) × (length (code l.program) ≡ l.label)

@@ -17,8 +17,8 @@ loop-case-smaller c =
     let same : length c.in-Some.after.now ≡ length (after_case c.loop-case.rest.now) = ap length was.2 in
     omega arith
 
-pub loop_case_init : goal.loop_case_init
-loop_case_init c = (onward_first _, refl)
+pub loop-case-init : goal.loop-case-init
+loop-case-init c = (onward_first _, refl)
 
 pub loop-case-preserved : goal.loop-case-preserved
 loop-case-preserved c =

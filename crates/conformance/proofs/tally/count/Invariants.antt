@@ -6,8 +6,8 @@ use Rattle.conformance.proofs.Turn.{onward}
 use Rattle.conformance.proofs.tally.count.Given as goal
 
 -- Without the cases still to come, nothing ties what was counted to the whole table.
-abbrev pub invariant_loop_case : goal.invariant_loop_case
-invariant_loop_case l = (onward (tally_found l.tally) (cases l.rest) ≡ found (cases l.table)) × (left_over l.rest ≡ left_over l.table)
+abbrev pub invariant-loop-case : goal.invariant-loop-case
+invariant-loop-case l = (onward (tally_found l.tally) (cases l.rest) ≡ found (cases l.table)) × (left_over l.rest ≡ left_over l.table)
 
 abbrev pub decreases-loop-case : goal.decreases-loop-case
 decreases-loop-case l = length l.rest

@@ -13,8 +13,8 @@ loop-place-init g c =
     let o = order c.new.result.lattice in
     (ap (λ done. map answer_of done ++ transcript_from o 0 (in_setup (setup_state c.new.result)) calls) c.new-answers.ensures.items ∙ ap (λ s. transcript_from o 0 (in_setup s) calls) new, refl)
 
-pub loop_place_preserved : goal.loop_place_preserved
-loop_place_preserved g c =
+pub loop-place-preserved : goal.loop-place-preserved
+loop-place-preserved g c =
     let inv = c.loop-place.invariant in
     let told = c.in_ok-next.ensures in
     let kept : lattice_of c.in-Some.next ≡ lattice_of c.loop-place.phase = subst (KeepsLattice (lattice_of c.loop-place.phase)) c.in-Some.is told.same_lattice in

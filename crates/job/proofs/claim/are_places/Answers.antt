@@ -6,8 +6,8 @@ use Rattle.job.proofs.claim.are_places.Goals as goal
 pub loop-place-init : goal.loop-place-init
 loop-place-init c = all_none _
 
-pub loop_place_preserved : goal.loop_place_preserved
-loop_place_preserved c = all_more (like_a_place c.args.span c.args.record.now) c.loop-place.place c.loop-place.invariant (sym c.if-not-is_place.ensures)
+pub loop-place-preserved : goal.loop-place-preserved
+loop-place-preserved c = all_more (like_a_place c.args.span c.args.record.now) c.loop-place.place c.loop-place.invariant (sym c.if-not-is_place.ensures)
 
 pub returns-then-not-is_place : goal.returns-then-not-is_place
 returns-then-not-is_place c =

@@ -6,8 +6,8 @@ use Rattle.job.proofs.part.zeros.Goals as goal
 pub loop-at-init : goal.loop-at-init
 loop-at-init c = all_none _
 
-pub loop_at_preserved : goal.loop_at_preserved
-loop_at_preserved c = all_more (λ k. eqb (get_or c.args.bytes.now k 0) 0) c.loop-at.at c.loop-at.invariant (eq-eqb _ 0 (omega arith))
+pub loop-at-preserved : goal.loop-at-preserved
+loop-at-preserved c = all_more (λ k. eqb (get_or c.args.bytes.now k 0) 0) c.loop-at.at c.loop-at.invariant (eq-eqb _ 0 (omega arith))
 
 pub returns-then-bytes-at-ne0 : goal.returns-then-bytes-at-ne0
 returns-then-bytes-at-ne0 c =

@@ -5,8 +5,8 @@ use Rattle.report.specs.Input.{level}
 use Rattle.report.proofs.CallFacts.{none_yet, one_more, all_of_them}
 use Rattle.report.proofs.calls.push_grades.Goals as goal
 
-pub loop_variable_init : goal.loop_variable_init
-loop_variable_init c = none_yet (λ v. grade v (level c.args.input.now.bytes.now v)) (map call_of (vec_items c.args.calls.now))
+pub loop-variable-init : goal.loop-variable-init
+loop-variable-init c = none_yet (λ v. grade v (level c.args.input.now.bytes.now v)) (map call_of (vec_items c.args.calls.now))
 
 pub loop-variable-preserved : goal.loop-variable-preserved
 loop-variable-preserved c =

@@ -4,8 +4,8 @@ use Rattle.checker.specs.Region.{spread_below}
 use Rattle.checker.proofs.RegionFacts.{times_none, times_more}
 use Rattle.checker.proofs.marks.Marks.region.Goals as goal
 
-pub loop_round_init : goal.loop_round_init
-loop_round_init c = sym (times_none _ _ _)
+pub loop-round-init : goal.loop-round-init
+loop-round-init c = sym (times_none _ _ _)
 
 pub loop-round-preserved : goal.loop-round-preserved
 loop-round-preserved c =

@@ -5,8 +5,8 @@ use Rattle.checker.proofs.RegionFacts.{spread_none, spread_marked, spread_unmark
 use Rattle.checker.proofs.marks.Marks.spread.Goals as goal
 use Rattle.checker.proofs.marks.Marks.spread.Goals.{then-has, else-has}
 
-pub loop_label_init : goal.loop_label_init
-loop_label_init c = sym (spread_none _ _ _)
+pub loop-label-init : goal.loop-label-init
+loop-label-init c = sym (spread_none _ _ _)
 
 pub loop-label-preserved : goal.loop-label-preserved
 loop-label-preserved c =

@@ -3,5 +3,5 @@ use Rattle.push.specs.Code.{code}
 use Rattle.checker.specs.Region.{spread_below}
 use Rattle.checker.proofs.marks.Marks.spread.Given as goal
 
-abbrev pub invariant_loop_label : goal.invariant_loop_label
-invariant_loop_label l = l.self.at ≡ spread_below (code l.program) l.junction l.label l.initial.self.at
+abbrev pub invariant-loop-label : goal.invariant-loop-label
+invariant-loop-label l = l.self.at ≡ spread_below (code l.program) l.junction l.label l.initial.self.at

@@ -9,8 +9,8 @@ use Rattle.job.proofs.Stacks.{stack_length}
 use Rattle.checker.proofs.KindFacts.{begins_so_far, begins_otherwise, ends_before, begins_all}
 use Rattle.checker.proofs.rules.Rules.begins.Goals as goal
 
-pub returns_then_place_from : goal.returns_then_place_from
-returns_then_place_from g c =
+pub returns-then-place-from : goal.returns-then-place-from
+returns-then-place-from g c =
     let self = c.args.self.now in
     let stack = (claim_says self.job c.args.claim).stack in
     let ks = c.args.kinds.now in
@@ -33,8 +33,8 @@ returns-then-not-is g c =
     let test = ap (same_kind (get_or ks n Integer)) (sym held) ∙ sym c.if-not-is.ensures in
     sym (begins_otherwise ks xs n Integer c.loop-place-test.true within test) ∙ c.loop-place.invariant
 
-pub loop_place_preserved : goal.loop_place_preserved
-loop_place_preserved g c =
+pub loop-place-preserved : goal.loop-place-preserved
+loop-place-preserved g c =
     let self = c.args.self.now in
     let stack = (claim_says self.job c.args.claim).stack in
     let ks = c.args.kinds.now in

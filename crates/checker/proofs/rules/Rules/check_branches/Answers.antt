@@ -5,8 +5,8 @@ use Rattle.checker.specs.Of.{job_of}
 use Rattle.checker.proofs.FirstFacts.{first_none, first_more, first_found, rule_is_some}
 use Rattle.checker.proofs.rules.Rules.check_branches.Goals as goal
 
-pub loop_label_init : goal.loop_label_init
-loop_label_init g c = first_none _
+pub loop-label-init : goal.loop-label-init
+loop-label-init g c = first_none _
 
 pub loop-label-preserved : goal.loop-label-preserved
 loop-label-preserved g c =

@@ -28,8 +28,8 @@ returns-then-not-fits_under g c =
     let fails = ap₂ (fits_under o) (sym (c.leaving-leaving.ensures within)) (sym c.place.ensures) ∙ sym c.if-not-fits_under.ensures in
     sym (fit_no_more o left taken n (IntegerAt 0) within under fails) ∙ c.loop-place.invariant
 
-pub loop_place_preserved : goal.loop_place_preserved
-loop_place_preserved g c =
+pub loop-place-preserved : goal.loop-place-preserved
+loop-place-preserved g c =
     let self = c.args.self.now in
     let o = g.L.Lattice.order self.lattice.now in
     let left = leaves o (levels_of self) (claim_says self.job c.args.claim) c.args.instruction in

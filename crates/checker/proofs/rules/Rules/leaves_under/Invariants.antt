@@ -4,8 +4,8 @@ use Rattle.checker.specs.Leaving.{leaves, all_fit_under}
 use Rattle.checker.specs.Of.{levels_of}
 use Rattle.checker.proofs.rules.Rules.leaves_under.Given as goal
 
-abbrev pub invariant_loop_place : goal.invariant_loop_place
-invariant_loop_place g l =
+abbrev pub invariant-loop-place : goal.invariant-loop-place
+invariant-loop-place g l =
     let o = g.L.Lattice.order l.self.lattice.now in
     let left = leaves o (levels_of l.self) (claim_says l.self.job l.claim) l.instruction in
     let taken = (claim_says l.self.job l.next).stack in

@@ -5,8 +5,8 @@ use Rattle.checker.specs.Verdict.{is_clear}
 use Rattle.checker.specs.Of.{job_of}
 use Rattle.checker.proofs.rules.Rules.marked_at_least.Goals as goal
 
-pub loop_label_init : goal.loop_label_init
-loop_label_init g c = all_none _
+pub loop-label-init : goal.loop-label-init
+loop-label-init g c = all_none _
 
 pub loop-label-preserved : goal.loop-label-preserved
 loop-label-preserved g c =

@@ -3,8 +3,8 @@ use Rattle.controller.specs.Of.{ready_state}
 use Rattle.controller.proofs.SheetFacts.{open_none, open_more}
 use Rattle.controller.proofs.ready.Ready.count_open.Goals as goal
 
-pub loop_variable_init : goal.loop_variable_init
-loop_variable_init g c = (omega arith, sym (open_none _ _ _))
+pub loop-variable-init : goal.loop-variable-init
+loop-variable-init g c = (omega arith, sym (open_none _ _ _))
 
 pub loop-variable-preserved : goal.loop-variable-preserved
 loop-variable-preserved g c =

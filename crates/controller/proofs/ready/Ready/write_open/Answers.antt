@@ -4,8 +4,8 @@ use Rattle.controller.proofs.SheetFacts.{open_none, lines_none, room, open_turn,
 use Rattle.controller.proofs.ready.Ready.write_open.Goals as goal
 use Rattle.controller.proofs.ready.Ready.write_open.Goals.{then-is_open, else-is_open}
 
-pub loop_variable_init : goal.loop_variable_init
-loop_variable_init g c =
+pub loop-variable-init : goal.loop-variable-init
+loop-variable-init g c =
     let o = g.L.Lattice.order c.args.self.now.lattice in
     let s = ready_state c.args.self.now in
     (omega (arith, open_none o s c.args.observer), ap (λ front. front ++ c.args.buffer.now) (sym (lines_none o s c.args.observer)))

@@ -3,8 +3,8 @@ use Rattle.controller.specs.Sheet.{open_below, lines_below}
 use Rattle.controller.specs.Of.{ready_state}
 use Rattle.controller.proofs.ready.Ready.write_open.Given as goal
 
-abbrev pub invariant_loop_variable : goal.invariant_loop_variable
-invariant_loop_variable g l =
+abbrev pub invariant-loop-variable : goal.invariant-loop-variable
+invariant-loop-variable g l =
     let o = g.L.Lattice.order l.self.lattice in
     let s = ready_state l.self in
     (l.at ≡ 5 * open_below o s l.observer l.variable) × (l.buffer ≡ lines_below o s l.observer l.variable ++ drop l.at l.initial.buffer)

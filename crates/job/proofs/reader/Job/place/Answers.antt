@@ -4,8 +4,8 @@ use Rattle.job.specs.Records.{place_in}
 use Rattle.job.proofs.Stacks.{stack_within, stack_past}
 use Rattle.job.proofs.reader.Job.place.Goals as goal
 
-pub returns_then_place_from : goal.returns_then_place_from
-returns_then_place_from c = sym (stack_past (record_of c.args.self.now c.args.claim) c.args.claim.depth c.args.place _ (omega arith))
+pub returns-then-place-from : goal.returns-then-place-from
+returns-then-place-from c = sym (stack_past (record_of c.args.self.now c.args.claim) c.args.claim.depth c.args.place _ (omega arith))
 
 pub returns : goal.returns
 returns c =
