@@ -11,4 +11,4 @@ pub loop-round-preserved : goal.loop-round-preserved
 loop-round-preserved c =
     let is = code c.args.program.now in
     let j = c.args.junction in
-    c.spread.ensures ∙ ap (spread_below is j (length is)) c.loop-round.invariant ∙ sym (times_more is j c.mark_next.new.self.at c.loop-round.-round)
+    c.spread.ensures ∙ ap (spread_below is j (length is)) c.loop-round.invariant ∙ sym (times_more is j c.mark_next.new.self.at c.loop-round._round)
