@@ -1,6 +1,6 @@
 -- A list of calls, performed one by one: the answers so far and those of what is left. Assumes nothing.
 use Rattle.std.proofs.Common.{◌≡◌, ℕ, ◌+◌, ◌<◌, ◌≤◌, List, [], ◌∷◌, ◌++◌, map, length, get_or, drop, Some, None, Option, sym, ap, ◌∙◌, append_assoc, append-nil, arith}
-use mathlib.Core.List.{map_append}
+use mathlib.Core.List.{map-append}
 use lib.ListN.{length-map, get_or-map}
 use Rattle.std.proofs.lemmas.List.{drop_more, drop_all}
 use Rattle.lattice.specs.Order.{Order}
@@ -37,13 +37,13 @@ module _ {L : Type 0} (order : L → Order) (l : L) (calls : List code.Call) (n 
     pub answered_turn : (next : Phase L) (answer : code_answer.Answer) (more : List code_answer.Answer) → step ≡ Some (next, answer) → more ≡ answers ++ (answer ∷ []) → map answer_of more ++ transcript_from (order l) (n + 1) (state_of next) (drop (n + 1) (map call_of calls)) ≡ total
     answered_turn next answer more is pushed =
         ap (λ xs. map answer_of xs ++ transcript_from (order l) (n + 1) (state_of next) (drop (n + 1) (map call_of calls))) pushed
-        ∙ ap (λ done. done ++ transcript_from (order l) (n + 1) (state_of next) (drop (n + 1) (map call_of calls))) (map_append answer_of answers (answer ∷ []))
+        ∙ ap (λ done. done ++ transcript_from (order l) (n + 1) (state_of next) (drop (n + 1) (map call_of calls))) (map-append answer_of answers (answer ∷ []))
         ∙ one_answered (order l) n (state_of before) (map call_of calls) (map answer_of answers) total so_far (call_of d) within (answer_of answer) (state_of next) (told_plainly (allowed (answer_of answer) (state_of next)) (ap outcome_of is))
 
     pub disallowed_turn : (more : List code_answer.Answer) → step ≡ None → more ≡ answers ++ (NotAllowed n ∷ []) → map answer_of more ≡ total
     disallowed_turn more is pushed =
         ap (map answer_of) pushed
-        ∙ map_append answer_of answers (NotAllowed n ∷ [])
+        ∙ map-append answer_of answers (NotAllowed n ∷ [])
         ∙ one_disallowed (order l) n (state_of before) (map call_of calls) (map answer_of answers) total so_far (call_of d) within (told_plainly disallowed (ap outcome_of is))
 
   pub last_turn : length calls ≤ n → map answer_of answers ≡ total
