@@ -13,7 +13,7 @@ returns-then-is_refused c =
 pub loop-place-preserved : goal.loop-place-preserved
 loop-place-preserved c =
     let accepted = ap (λ a. is_refused (answer_of a)) (sym c.index-answers-place.is) ∙ sym c.if-is_refused.ensures in
-    let printed = c.in_ok-push_str.ensures.bytes ∙ ap (λ t. string_bytes c.loop-place.text ++ t) (c.as_str.ensures.value ∙ c.in_ok-lines.ensures ∙ ap (λ a. answer_lines (answer_of a)) c.index-answers-place_in-loop-place.is) in (
+    let printed = c.in_ok-push_str.ensures.bytes ∙ ap (λ t. string_bytes c.loop-place.text ++ t) (c.as_str.ensures.value ∙ c.in_ok-lines.ensures ∙ ap (λ a. answer_lines (answer_of a)) c.index-answers-place-in-loop-place.is) in (
       one_printed c.args.answers.now c.loop-place.place _ c.loop-place-test.true _ _ _ c.loop-place.invariant.0 printed,
       one_accepted c.args.answers.now c.loop-place.place _ c.loop-place-test.true _ c.loop-place.invariant.1 accepted,
     )
