@@ -1,7 +1,7 @@
 -- The verdict accepts exactly the jobs that decode and are well claimed, and names the first broken rule of any other.
 -- Assumes nothing.
-use Rattle.std.proofs.Common.{◌≡◌, ℕ, zero, suc, ◌+◌, ◌*◌, ◌<◌, ◌≤◌, Bool, true, false, cond, eqb, leb, ◌≢◌, ◌⊎◌, List, [], ◌∷◌, ◌++◌, length, get_or, Some, None, Ok, Err, Decides, Option, Result, sym, refl, ap, ◌∙◌, subst, ap₂, inl, inr, ⊎_elim, arith, length-append}
-use Rattle.std.proofs.lemmas.Bool.{eqb-true, eqb-false, eq-eqb, ne_eqb, cases_Bool, cases_eq, cond-true, cond-false, false≢true, true≢false}
+use Rattle.std.proofs.Common.{◌≡◌, ℕ, zero, suc, ◌+◌, ◌*◌, ◌<◌, ◌≤◌, Bool, true, false, cond, eqb, ◌≢◌, ◌⊎◌, List, [], ◌∷◌, length, get_or, Some, None, Ok, Err, Option, Result, sym, refl, ap, ◌∙◌, subst, ap₂, inl, inr, ⊎_elim, arith, length-append}
+use Rattle.std.proofs.lemmas.Bool.{eq-eqb, ne_eqb, cases_Bool, cases_eq, cond-true, cond-false, false≢true}
 use Rattle.std.proofs.lemmas.Bool.Decides.{nat_tests}
 use Rattle.lattice.specs.Order.{Order}
 use Rattle.push.specs.declared.instruction.Instruction.{Instruction}
@@ -16,8 +16,8 @@ use Rattle.job.specs.Records.{Claimed, like_a_claim}
 use Rattle.checker.specs.Leaving.{level_at}
 use Rattle.checker.specs.Rules.{ProgramWithClaims, exit, is_empty, fits_its_stack, stores_upward, successors_take, rule_at, where_claimed, label_rule}
 use Rattle.checker.specs.Region.{region}
-use Rattle.checker.specs.Verdict.{marked_at_least, region_rule, branch_at, branch_rule, empty_claim, entry_rule, first_below, first_of, instruction_at, unlike_instruction, instruction_rule, claim_rule, code_below, job_in, rules_verdict, records_verdict, sized_verdict, verdict}
-use Rattle.checker.specs.WellClaimed.{FitsItsStack, StoresUpward, SuccessorsTake, AvoidsExit, RegionRaised, BeginsEmpty, LabelKept, BranchKept, WhereClaimed, Below, WellClaimed, Says, LikeAClaim, Decodes, Mountable, LabelBreaks, stack, store, successor, BranchBreaks, exit_inside, too_low, BreaksAt, FirstBroken, unopened, instruction, claim, entry, label_rule as at_label, branch_rule as at_branch, Judged}
+use Rattle.checker.specs.Verdict.{marked_at_least, branch_at, branch_rule, empty_claim, entry_rule, first_below, first_of, instruction_at, unlike_instruction, instruction_rule, claim_rule, code_below, job_in, rules_verdict, records_verdict, sized_verdict, verdict}
+use Rattle.checker.specs.WellClaimed.{BeginsEmpty, LabelKept, BranchKept, WhereClaimed, Below, WellClaimed, Says, LikeAClaim, Decodes, Mountable, LabelBreaks, stack, store, successor, BranchBreaks, exit_inside, too_low, BreaksAt, FirstBroken, unopened, instruction, claim, entry, label_rule as at_label, branch_rule as at_branch, Judged}
 use Rattle.checker.proofs.Decided.{decides_fits, decides_stores, decides_successors, exit_unmarked, avoids, raised_all, all_raised, emptied}
 
 -- The first label at which a rule breaks.

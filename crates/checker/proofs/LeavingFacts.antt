@@ -1,5 +1,5 @@
 -- What leaves a label, place by place. Assumes nothing.
-use Rattle.std.proofs.Common.{◌≡◌, ℕ, zero, suc, ◌+◌, ◌-◌, ◌<◌, ◌≤◌, Bool, true, false, ◌&&◌, List, [], ◌∷◌, ◌++◌, map, length, get_or, drop, Some, None, Option, sym, refl, ap, ◌∙◌, ap₂, arith, length-append, length-drop, get_or-drop}
+use Rattle.std.proofs.Common.{◌≡◌, ℕ, zero, suc, ◌+◌, ◌-◌, ◌<◌, ◌≤◌, true, false, ◌&&◌, List, [], ◌∷◌, ◌++◌, map, length, get_or, drop, Some, None, Option, refl, ap, ◌∙◌, ap₂, arith, length-append, length-drop, get_or-drop}
 use Rattle.std.proofs.lemmas.List.{length-map, get_or-map, drop_all, drop_more}
 use Rattle.std.proofs.lemmas.Bool.{and_left, and_right}
 use Rattle.lattice.specs.Order.{Order}
@@ -7,9 +7,8 @@ use Rattle.push.specs.declared.instruction.Instruction.{Instruction}
 use Rattle.push.specs.declared.instruction.Instruction.TheVariants.{Load, Store, Push, Add, Sub, Eq, Less, Not, Goto, GotoF}
 use Rattle.push.specs.Language.{pops, pushes, optional}
 use Rattle.job.specs.declared.claim.Place.{Place}
-use Rattle.job.specs.declared.claim.Place.TheVariants.{IntegerAt, BooleanAt}
 use Rattle.job.specs.Records.{Claimed}
-use Rattle.checker.specs.Leaving.{pushed, raised, leaves, fits_under, all_fit_under}
+use Rattle.checker.specs.Leaving.{pushed, leaves, fits_under, all_fit_under}
 
 -- A place is pushed where the language's table says that a kind is.
 pub pushed_as_listed : (o : Order) (levels : List ℕ) (c : Claimed) (i : Instruction) → length (optional (pushed o levels c i)) ≡ length (optional (pushes i))

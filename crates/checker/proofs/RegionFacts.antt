@@ -1,5 +1,5 @@
 -- The marks of a region, label by label and round by round. Assumes nothing.
-use Rattle.std.proofs.Common.{◌≡◌, ℕ, suc, ◌+◌, Bool, true, false, cond, List, length, get_or, sym, refl, ap, ◌∙◌, add-one}
+use Rattle.std.proofs.Common.{◌≡◌, ℕ, ◌+◌, Bool, true, false, cond, List, length, get_or, sym, refl, ap, ◌∙◌, add-one}
 use Rattle.std.proofs.lemmas.Bool.{cond-true, cond-false}
 use Rattle.push.specs.declared.instruction.Instruction.{Instruction}
 use Rattle.checker.specs.Region.{next_labels, mark_all, spread_below, spread_times}

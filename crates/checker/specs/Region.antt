@@ -1,5 +1,5 @@
 -- The region of a branch: as the least set that the rule names, and as a table of marks. Assumes nothing.
-use Rattle.std.specs.Prelude.{ℕ, zero, suc, ◌≤◌, Bool, true, false, cond, ◌≢◌, List, [], ◌∷◌, length, set, replicate, Some, None, Decides, Option, ◌==◌, slice_index_or, slice_set}
+use Rattle.std.specs.Prelude.{ℕ, zero, suc, ◌≤◌, Bool, true, false, cond, ◌≢◌, List, [], ◌∷◌, length, replicate, Some, None, Decides, Option, ◌==◌, slice_index_or, slice_set}
 use Rattle.push.specs.declared.instruction.Instruction.{Instruction}
 use Rattle.push.specs.Code.{fetch}
 use Rattle.push.specs.Language.{successors}

@@ -5,7 +5,7 @@ use Rattle.std.proofs.lemmas.List.{nil_from_length}
 use Rattle.std.proofs.lemmas.Bool.{cases_Bool, cond-true, cond-false, cond_both, and_parts, eqb-true}
 use Rattle.report.specs.Report.{report}
 use Rattle.conformance.specs.Table.{Trial, cases, left_over}
-use Rattle.conformance.specs.Found.{agrees, agreeing, Conforms, found}
+use Rattle.conformance.specs.Found.{agrees, agreeing, Conforms}
 use Rattle.conformance.specs.Summary.{passes}
 
 pub agreeing_few : (trials : List Trial) → agreeing trials ≤ length trials

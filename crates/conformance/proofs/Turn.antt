@@ -1,7 +1,7 @@
 -- What one case more does to a tally. Assumes nothing.
-use Rattle.std.proofs.Common.{◌≡◌, ℕ, suc, ◌+◌, ◌^◌, ◌<◌, ◌≤◌, Bool, true, false, cond, List, [], ◌∷◌, length, Some, None, Option, sym, refl, ap, ◌∙◌, ap₂, arith}
+use Rattle.std.proofs.Common.{◌≡◌, ℕ, suc, ◌+◌, ◌^◌, ◌<◌, Bool, true, false, List, [], ◌∷◌, length, Some, None, Option, sym, refl, ap, ◌∙◌, arith}
 use Rattle.std.proofs.lemmas.Bool.{cond-true, cond-false}
-use Rattle.conformance.specs.Table.{Trial, has_case, first_case, after_case, next_case, cases}
+use Rattle.conformance.specs.Table.{Trial, next_case, cases}
 use Rattle.conformance.specs.Found.{Found, agrees, agreeing, first_differing, found, or_else, noted}
 use Rattle.conformance.proofs.Agreement.{agreeing_few}
 use Rattle.conformance.proofs.Walk.{was_some, cases_more, cases_few}

@@ -5,7 +5,7 @@ use Rattle.std.proofs.lemmas.Bool.{true≢false, false≢true, eqb-true, ltb-tru
 use Rattle.lattice.specs.Order.{Order, Laws}
 use Rattle.push.specs.declared.instruction.Instruction.{Instruction}
 use Rattle.push.specs.Machine.{Machine, at}
-use Rattle.push.specs.Run.{RunState, Steps, run, is_halted, label_of, values_of}
+use Rattle.push.specs.Run.{RunState, Steps, is_halted, label_of, values_of}
 use Rattle.job.specs.Layout.{opening}
 use Rattle.checker.specs.Verdict.{verdict, decoded_code}
 use Rattle.checker.specs.Flow.{SameWhenOpen, KeepsClosed}

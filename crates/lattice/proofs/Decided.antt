@@ -1,9 +1,8 @@
 -- The span and at_most of a lawful order decide its other four answers. Assumes nothing.
-use Rattle.std.proofs.Common.{◌≡◌, ℕ, ◌<◌, ◌≤◌, true, ◌⊎◌, sym, ap, ◌∙◌, inl, inr, ⊎_elim, arith}
+use Rattle.std.proofs.Common.{◌≡◌, ℕ, ◌<◌, ◌≤◌, true, ◌⊎◌, sym, ◌∙◌, inl, inr, ⊎_elim, arith}
 use Rattle.std.proofs.lemmas.Bool.{cases_lt}
-use Rattle.lattice.specs.Order.{Order, Laws, Alike}
+use Rattle.lattice.specs.Order.{Order, Laws}
 use Rattle.lattice.specs.Meaning.{SpanAndAtMostDecide}
-use Rattle.lattice.specs.Levels.{lowest_level, highest_level}
 
 module _ (o p : Order) (lo : Laws o) (lp : Laws p) (spans : o.span ≡ p.span) (orders : (a b : ℕ) → o.at_most a b ≡ p.at_most a b) where
   there : {a : ℕ} → a < o.span → a < p.span

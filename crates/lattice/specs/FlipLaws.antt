@@ -1,5 +1,4 @@
 -- An order upside down keeps the laws. Assumes nothing.
-use Rattle.std.specs.Prelude.{◌⊎◌}
 use Rattle.lattice.specs.Order.{Order, Laws}
 use Rattle.lattice.specs.Kinds.{flip}
 

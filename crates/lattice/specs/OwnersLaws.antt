@@ -1,10 +1,10 @@
 -- Sets of owners under inclusion keep the laws, and at_most is inclusion owner by owner. Assumes nothing.
-use Rattle.std.specs.Prelude.{◌≡◌, ℕ, zero, suc, ◌+◌, ◌-◌, ◌*◌, ◌/◌, ◌%◌, ◌^◌, ◌<◌, ◌≤◌, min, max, Bool, true, false, cond, ◌&&◌, ◌⊎◌, ◌==◌, nat_eq, nat_le, refl}
-use Rattle.std.proofs.Common.{sym, ◌∙◌, ap, inl, inr, ⊎_elim, div-one, mod-lt, mod-eq_of_lt, arith, pow_mono}
+use Rattle.std.specs.Prelude.{◌≡◌, ℕ, zero, suc, ◌+◌, ◌-◌, ◌*◌, ◌/◌, ◌%◌, ◌^◌, ◌<◌, ◌≤◌, min, max, true, ◌==◌, nat_eq, nat_le, refl}
+use Rattle.std.proofs.Common.{sym, ◌∙◌, ap, div-one, mod-lt, mod-eq_of_lt, arith, pow_mono}
 use Rattle.std.specs.Int.Bits.{bit_and, bit_or, and_step, or_step, and_lt, and_self, and_zero_l}
-use Rattle.std.proofs.lemmas.Nat.{shr-shr, pow_pos, and_comm, and_shr, or_shr, or_lt, and_mask}
+use Rattle.std.proofs.lemmas.Nat.{shr-shr, and_shr, or_shr, or_lt, and_mask}
 use Rattle.std.proofs.lemmas.Bool.{eqb-true, eq-eqb, leb-true, cond_both}
-use Rattle.lattice.specs.Order.{Order, Laws}
+use Rattle.lattice.specs.Order.{Laws}
 use Rattle.lattice.specs.Kinds.{owners, owners_span}
 use Rattle.lattice.specs.Meaning.{OwnersGoByInclusion}
 use Rattle.lattice.specs.AmongLevels.{parts, put, laws_among_levels}

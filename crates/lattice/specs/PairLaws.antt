@@ -1,8 +1,8 @@
 -- Two lawful orders side by side keep the laws. Assumes nothing.
-use Rattle.std.specs.Prelude.{◌≡◌, ℕ, zero, suc, ◌+◌, ◌*◌, ◌/◌, ◌%◌, ◌<◌, ◌≤◌, Bool, true, ◌&&◌, nat_le, refl}
-use Rattle.std.proofs.Common.{sym, ◌∙◌, ap₂, subst, ⊎_elim, mul-zero, arith}
+use Rattle.std.specs.Prelude.{◌≡◌, ℕ, zero, suc, ◌+◌, ◌*◌, ◌/◌, ◌%◌, ◌<◌, ◌≤◌, true, nat_le, refl}
+use Rattle.std.proofs.Common.{sym, ◌∙◌, ap₂, subst, mul-zero, arith}
 use Rattle.std.proofs.lemmas.Nat.{div-add-mod', mul-add-lt, div-mul-add, mod-mul-add, div_below, mod_below}
-use Rattle.std.proofs.lemmas.Bool.{cond_both, leb-true, and_parts, and_from, cases_lt}
+use Rattle.std.proofs.lemmas.Bool.{cond_both, leb-true, and_parts, and_from}
 use Rattle.lattice.specs.Order.{Order, Laws}
 use Rattle.lattice.specs.Kinds.{pair, pair_span, pair_at_most, part_by_part, code}
 use Rattle.lattice.specs.Meaning.{PairGoesByParts}

@@ -3,7 +3,6 @@ use Rattle.std.proofs.Common.{◌≡◌, ℕ, ◌+◌, ◌<◌, ◌≤◌, Bool,
 use lib.ListN.{length-map, get_or-map}
 use Rattle.std.proofs.lemmas.List.{drop_more, drop_all}
 use Rattle.controller.specs.declared.answer.Answer as code
-use Rattle.controller.specs.Lists.{Answer}
 use Rattle.controller.specs.Of.{answer_of}
 use Rattle.report.specs.Report.{answer_lines, lines, is_refused, any_refused, answers_text, bad_input}
 

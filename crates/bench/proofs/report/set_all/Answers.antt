@@ -1,4 +1,4 @@
-use Rattle.std.proofs.Common.{◌≡◌, ◌<◌, length, get_or, set, pos, refl, ap, ◌∙◌, arith, to_z-of_z, w32, SFits, rules}
+use Rattle.std.proofs.Common.{◌<◌, length, set, pos, refl, ap, ◌∙◌, arith, to_z-of_z, w32, SFits, rules}
 use Rattle.std.proofs.lemmas.List.Edits.{fill_by_more}
 use Rattle.controller.specs.Of.{ready_state}
 use Rattle.controller.proofs.Outcomes.{was_set}

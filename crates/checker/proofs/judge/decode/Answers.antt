@@ -1,8 +1,8 @@
-use Rattle.std.proofs.Common.{◌≡◌, ◌+◌, ◌<◌, true, cond, List, [], ◌∷◌, ◌++◌, length, sym, ap, ◌∙◌, arith, length-append}
+use Rattle.std.proofs.Common.{◌≡◌, ◌+◌, ◌<◌, cond, [], ◌∷◌, ◌++◌, length, sym, ap, ◌∙◌, arith, length-append}
 use Rattle.std.proofs.lemmas.Bool.{lt-ltb}
 use Rattle.push.specs.Code.{code}
 use Rattle.job.specs.Of.{sizes}
-use Rattle.checker.specs.Verdict.{instruction_at, instruction_rule, unlike_instruction, code_below, first_below}
+use Rattle.checker.specs.Verdict.{instruction_at, instruction_rule, unlike_instruction}
 use Rattle.checker.proofs.DecodeFacts.{code_none, code_more, was_read, not_read}
 use Rattle.checker.proofs.FirstFacts.{first_none, first_more, first_found, record_is_some}
 use Rattle.checker.proofs.judge.decode.Goals as goal

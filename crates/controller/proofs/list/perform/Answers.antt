@@ -1,4 +1,4 @@
-use Rattle.std.proofs.Common.{◌≡◌, [], ◌∷◌, ◌++◌, map, vec_items, sym, refl, ap, ◌∙◌, subst}
+use Rattle.std.proofs.Common.{◌≡◌, ◌++◌, map, vec_items, sym, refl, ap, ◌∙◌, subst}
 use Rattle.controller.specs.Lists.{in_setup, transcript, transcript_from}
 use Rattle.controller.specs.State.{new_state}
 use Rattle.controller.specs.Of.{call_of, answer_of, lattice_of, setup_state, KeepsLattice}

@@ -1,4 +1,4 @@
-use Rattle.std.proofs.Common.{◌≡◌, map, IfOk, Ok, Err, vec_items, Result, ap, ◌∙◌}
+use Rattle.std.proofs.Common.{map, IfOk, Ok, Err, Result, ap, ◌∙◌}
 use Rattle.controller.specs.Counts.{stack_faults}
 use Rattle.controller.specs.Of.{call_of}
 use Rattle.controller.proofs.Kept.{no_stack_faults}

@@ -1,5 +1,3 @@
-use Rattle.std.proofs.Common.{◌≡◌, ap, ◌∙◌}
-use Rattle.controller.specs.Of.{call_of}
 use Rattle.report.proofs.CallFacts.{all_calls}
 use Rattle.report.proofs.calls.calls.Goals as goal
 

@@ -1,5 +1,5 @@
-use Rattle.std.proofs.Common.{◌≡◌, ℕ, map, vec_items, ap, arith}
-use Rattle.controller.specs.Lists.{Call, grade}
+use Rattle.std.proofs.Common.{◌≡◌, map, vec_items, ap, arith}
+use Rattle.controller.specs.Lists.{grade}
 use Rattle.controller.specs.Of.{call_of}
 use Rattle.report.specs.Input.{level}
 use Rattle.report.proofs.CallFacts.{none_yet, one_more, all_of_them}

@@ -1,5 +1,5 @@
-use Rattle.std.proofs.Common.{◌≡◌, ℕ, map, vec_items, ap, arith, to_z-of_z, w32, SFits, rules}
-use Rattle.controller.specs.Lists.{Call, set}
+use Rattle.std.proofs.Common.{◌≡◌, map, vec_items, ap, arith, to_z-of_z, w32, SFits, rules}
+use Rattle.controller.specs.Lists.{set}
 use Rattle.controller.specs.Of.{call_of}
 use Rattle.report.specs.Input.{value}
 use Rattle.report.proofs.CallFacts.{none_yet, one_more, all_of_them}

@@ -1,8 +1,8 @@
-use Rattle.std.proofs.Common.{◌≡◌, ◌<◌, true, false, length, get_or, sym, ap, ◌∙◌, ap₂, arith}
+use Rattle.std.proofs.Common.{◌<◌, length, sym, ◌∙◌, ap₂, arith}
 use Rattle.job.specs.declared.claim.Place.TheVariants.{IntegerAt}
 use Rattle.job.specs.Of.{claim_says, record_of}
 use Rattle.job.proofs.Stacks.{stack_length}
-use Rattle.checker.specs.Leaving.{leaves, fits_under, all_fit_under}
+use Rattle.checker.specs.Leaving.{leaves, fits_under}
 use Rattle.checker.specs.Of.{levels_of}
 use Rattle.checker.proofs.LeavingFacts.{lengths_differ, fit_so_far, fit_no_more, fit_to_end}
 use Rattle.checker.proofs.rules.Rules.leaves_under.Goals as goal

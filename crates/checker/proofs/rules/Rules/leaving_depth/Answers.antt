@@ -1,5 +1,5 @@
-use Rattle.std.proofs.Common.{◌≡◌, ◌+◌, ◌-◌, length, sym, ap, ◌∙◌, arith}
-use Rattle.push.specs.Language.{optional, pops}
+use Rattle.std.proofs.Common.{length, sym, ap, arith}
+use Rattle.push.specs.Language.{optional}
 use Rattle.job.specs.Of.{claim_says, record_of}
 use Rattle.job.proofs.Stacks.{stack_length}
 use Rattle.checker.specs.Of.{levels_of}

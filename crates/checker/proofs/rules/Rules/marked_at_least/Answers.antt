@@ -1,4 +1,4 @@
-use Rattle.std.proofs.Common.{◌≡◌, length, sym, arith}
+use Rattle.std.proofs.Common.{◌≡◌, sym, arith}
 use Rattle.job.proofs.AllBelow.{all_none, all_more, all_spoilt}
 use Rattle.checker.specs.Rules.{exit}
 use Rattle.checker.specs.Verdict.{is_clear}

@@ -1,4 +1,4 @@
-use Rattle.std.proofs.Common.{◌<◌, ◌≤◌, length, Some, sym, ap, ◌∙◌, arith, length-take, get_or-take}
+use Rattle.std.proofs.Common.{◌<◌, ◌≤◌, length, Some, ap, ◌∙◌, arith, length-take, get_or-take}
 use Rattle.std.proofs.lemmas.Bool.{false≢true}
 use Rattle.push.specs.Code.{code}
 use Rattle.push.proofs.Fetches.{fetch_within, fetch_past}

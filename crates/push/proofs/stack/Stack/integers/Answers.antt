@@ -1,4 +1,4 @@
-use Rattle.std.proofs.Common.{◌≡◌, Some, sym, refl, ap, ◌∙◌, arith, to_z-of_z, w32, SFits, rules}
+use Rattle.std.proofs.Common.{Some, sym, ap, ◌∙◌, arith, to_z-of_z, w32, SFits, rules}
 use Rattle.std.proofs.lemmas.Bool.{false≢true}
 use Rattle.push.specs.Machine.{integers_on}
 use Rattle.push.specs.Of.{held}
