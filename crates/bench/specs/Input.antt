@@ -1,7 +1,6 @@
 -- Where the fields of an input stand. Assumes nothing.
 use Rattle.std.specs.Prelude.{ℕ, ◌+◌, ◌*◌, Bool, cond, ◌&&◌, List, map, length, drop, ℤ, Some, None, Option, ◌==◌, nat_le, nat_lt, slice_index}
-use Rattle.std.specs.Int.{w32}
-use Rattle.std.proofs.Common.{to_z}
+use Rattle.std.specs.Int.{w32, cast_signed}
 use Rattle.std.specs.List.{range_with_len}
 use Rattle.lattice.specs.Order.{Order}
 use Rattle.lattice.specs.Kinds.{ladder, owners, flip, pair}
@@ -24,7 +23,7 @@ level bytes variable = slice_index bytes (1 + 2 * variable) + slice_index bytes 
 -- A variable's value: four bytes, lower byte first, signed.
 abbrev pub value : List ℕ → ℕ → ℤ
 value bytes variable =
-    to_z w32
+    cast_signed w32
     (slice_index bytes (65 + 4 * variable) + slice_index bytes (66 + 4 * variable) * 256 + slice_index bytes (67 + 4 * variable) * 65536
     + slice_index bytes (68 + 4 * variable) * 16777216)
 

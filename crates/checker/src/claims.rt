@@ -4,7 +4,7 @@ ghost use Rattle.job.specs.Records.{kind as kind_of};
 ghost use Rattle.job.specs.Of.{claim_says};
 ghost use Rattle.checker.specs.Faults.{rule_answer};
 ghost use Rattle.checker.specs.Leaving.{leaves};
-ghost use Rattle.checker.specs.Rules.{fits_its_stack as fits_its_stack_of, stores_upward as stores_upward_of, takes as TakesOf, successors_take as successors_take_of, label_rule};
+ghost use Rattle.checker.specs.Rules.{fits_its_stack as fits_its_stack_of, stores_upward as stores_upward_of, takes as takes_of, successors_take as successors_take_of, label_rule};
 ghost use Rattle.checker.specs.Of.{levels_of, job_of};
 
 use crate::fault::Rule;
@@ -52,7 +52,7 @@ impl<L: Lattice> Rules<'_, L> {
 
     // Whether a label takes what leaves: the exit an empty stack, another by its claim.
     fn takes(&self, claim: Claim, instruction: Instruction, label: u16) -> bool
-        ensures { result ≡ TakesOf (L.Lattice.order self.now.lattice.now) (job_of self.now) (leaves (L.Lattice.order self.now.lattice.now) (levels_of self.now) (claim_says self.now.job claim) instruction) label }
+        ensures { result ≡ takes_of (L.Lattice.order self.now.lattice.now) (job_of self.now) (leaves (L.Lattice.order self.now.lattice.now) (levels_of self.now) (claim_says self.now.job claim) instruction) label }
     {
         if usize::from(label) == self.program.len() {
             return self.leaving_depth(claim, instruction) == 0;

@@ -1,7 +1,6 @@
 -- The sheet: what one observer may see of a controller. Assumes nothing.
 use Rattle.std.specs.Prelude.{ℕ, zero, suc, ◌+◌, ◌*◌, ◌/◌, ◌%◌, Bool, cond, List, [], ◌∷◌, ◌++◌, length, drop, ℤ, pos, nat_lt, slice_index, slice_index_or}
-use Rattle.std.specs.Int.{w32}
-use Rattle.std.proofs.Common.{of_z}
+use Rattle.std.specs.Int.{w32, cast_unsigned}
 use Rattle.lattice.specs.Order.{Order}
 use Rattle.controller.specs.State.{ReadyState}
 
@@ -12,7 +11,7 @@ is_open o s observer variable = o.at_most (slice_index s.levels variable) observ
 -- A variable's number and its value, lower byte first.
 abbrev pub line : ℕ → ℤ → List ℕ
 line variable value =
-    variable ∷ of_z w32 value % 256 ∷ of_z w32 value / 256 % 256 ∷ of_z w32 value / 65536 % 256 ∷ of_z w32 value / 16777216 % 256 ∷ []
+    variable ∷ cast_unsigned w32 value % 256 ∷ cast_unsigned w32 value / 256 % 256 ∷ cast_unsigned w32 value / 65536 % 256 ∷ cast_unsigned w32 value / 16777216 % 256 ∷ []
 
 -- How many of the first n variables are open.
 unfoldable pub open_below : Order → ReadyState → ℕ → ℕ → ℕ

@@ -1,7 +1,6 @@
 -- What the records of a job say. Assumes nothing.
 use Rattle.std.specs.Prelude.{ℕ, zero, suc, ◌+◌, ◌*◌, Bool, true, false, cond, ◌&&◌, List, [], ◌∷◌, map, length, drop, ℤ, pos, negsuc, Some, None, Ok, Err, Option, Result, ◌==◌, nat_eq, nat_le, nat_lt, slice_index}
-use Rattle.std.specs.Int.{w32}
-use Rattle.std.proofs.Common.{to_z}
+use Rattle.std.specs.Int.{w32, cast_signed}
 use Rattle.std.specs.List.{range_with_len}
 use Rattle.push.specs.declared.instruction.Instruction.{Instruction}
 use Rattle.push.specs.declared.instruction.Instruction.TheVariants.{Load, Store, Push, Add, Sub, Eq, Less, Not, Goto, GotoF}
@@ -46,7 +45,7 @@ instruction_in exit (_ ∷ _ ∷ []) = None
 instruction_in exit (_ ∷ _ ∷ _ ∷ []) = None
 instruction_in exit (_ ∷ _ ∷ _ ∷ _ ∷ []) = None
 instruction_in exit (_ ∷ _ ∷ _ ∷ _ ∷ _ ∷ []) = None
-instruction_in exit (operation ∷ junction ∷ b0 ∷ b1 ∷ b2 ∷ b3 ∷ []) = decoded exit operation junction (to_z w32 (b0 + b1 * 256 + b2 * 65536 + b3 * 16777216))
+instruction_in exit (operation ∷ junction ∷ b0 ∷ b1 ∷ b2 ∷ b3 ∷ []) = decoded exit operation junction (cast_signed w32 (b0 + b1 * 256 + b2 * 65536 + b3 * 16777216))
 instruction_in exit (_ ∷ _ ∷ _ ∷ _ ∷ _ ∷ _ ∷ _ ∷ _) = None
 
 abbrev pub instruction_read : Option Instruction → Result Instruction RecordFault

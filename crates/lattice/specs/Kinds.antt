@@ -1,5 +1,5 @@
 -- The kinds of lattice, each by its six answers. Assumes nothing.
-use Rattle.std.specs.Prelude.{ℕ, ◌+◌, ◌-◌, ◌*◌, ◌/◌, ◌%◌, ◌^◌, ◌<◌, ◌≤◌, min, max, Bool, cond, ◌&&◌, leb, Some, None, Option, bit_and, bit_or, nat_eq, nat_le, nat_lt}
+use Rattle.std.specs.Prelude.{ℕ, ◌+◌, ◌-◌, ◌*◌, ◌/◌, ◌%◌, ◌^◌, ◌<◌, ◌≤◌, min, max, Bool, cond, ◌&&◌, Some, None, Option, bit_and, bit_or, nat_eq, nat_le, nat_lt}
 use Rattle.lattice.specs.Order.{Order}
 
 -- both codes are levels
@@ -22,7 +22,7 @@ abbrev pub ladder_span : ℕ → ℕ
 ladder_span grades = min grades 65535
 
 abbrev pub ladder : ℕ → Order
-ladder grades = among_levels (ladder_span grades) leb max min 0 (ladder_span grades - 1)
+ladder grades = among_levels (ladder_span grades) nat_le max min 0 (ladder_span grades - 1)
 
 -- Sets of owners by inclusion: bit i of a code stands for owner i.
 abbrev pub owners_span : ℕ → ℕ

@@ -1,4 +1,4 @@
--- The calls of the bench, variable by variable. Assumes nothing.
+-- The calls for an input, variable by variable. Assumes nothing.
 use Rattle.std.proofs.Common.{◌≡◌, ℕ, ◌+◌, List, [], ◌∷◌, ◌++◌, map, sym, ap, ◌∙◌, append_assoc, append-nil, arith, Bor}
 use mathlib.Core.List.{map-append}
 use Rattle.std.specs.List.{range_with_len}

@@ -1,7 +1,6 @@
 -- Where the fields of an input stand. Assumes nothing.
 use Rattle.std.specs.Prelude.{ℕ, ◌+◌, ◌*◌, Bool, cond, ◌&&◌, List, [], ◌∷◌, ◌++◌, map, length, drop, ℤ, Some, None, Option, ◌==◌, nat_le, slice_index}
-use Rattle.std.specs.Int.{w32}
-use Rattle.std.proofs.Common.{to_z}
+use Rattle.std.specs.Int.{w32, cast_signed}
 use Rattle.std.specs.List.{range_with_len}
 use Rattle.lattice.specs.Order.{Order}
 use Rattle.lattice.specs.Kinds.{ladder, owners, flip, pair}
@@ -23,7 +22,7 @@ level bytes variable = slice_index bytes (1 + 2 * variable) + slice_index bytes 
 -- A variable's value: four bytes, lower byte first, signed.
 abbrev pub value : List ℕ → ℕ → ℤ
 value bytes variable =
-    to_z w32
+    cast_signed w32
     (slice_index bytes (65 + 4 * variable) + slice_index bytes (66 + 4 * variable) * 256 + slice_index bytes (67 + 4 * variable) * 65536
     + slice_index bytes (68 + 4 * variable) * 16777216)
 
@@ -40,8 +39,8 @@ job bytes = drop 199 bytes
 unfoldable pub each : {X : Type 0} → (ℕ → X) → List X
 each f = map f (range_with_len 0 32)
 
--- What the bench does with an input: it grades every variable, seals, mounts the job, sets every variable, runs once
--- with the budget, and shows the observer's sheet by way of a buffer that any sheet fits.
+-- What is done with an input: every variable is graded, the controller sealed, the job mounted, every variable set, one run
+-- made with the budget, and the observer's sheet shown by way of a buffer that any sheet fits.
 abbrev pub calls : List ℕ → List Call
 calls bytes =
     each (λ variable. grade variable (level bytes variable))

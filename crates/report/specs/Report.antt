@@ -1,7 +1,6 @@
 -- The report's bytes. Assumes nothing.
 use Rattle.std.specs.Prelude.{ℕ, ◌+◌, ◌*◌, Bool, false, cond, not, ◌||◌, List, [], ◌∷◌, ◌++◌, ℤ, Some, None, codes, decimal, Option, ◌==◌, slice_index}
-use Rattle.std.specs.Int.{w32}
-use Rattle.std.proofs.Common.{to_z}
+use Rattle.std.specs.Int.{w32, cast_signed}
 use Rattle.std.specs.Fmt.{signed_decimal}
 use Rattle.lattice.specs.Order.{Order}
 use Rattle.controller.specs.Lists.{Answer, graded, sealed, mounted, was_set, was_read, shown, started, advanced, ended, unsealed, not_allowed, transcript}
@@ -21,7 +20,7 @@ rows (_ ∷ []) = []
 rows (_ ∷ _ ∷ []) = []
 rows (_ ∷ _ ∷ _ ∷ []) = []
 rows (_ ∷ _ ∷ _ ∷ _ ∷ []) = []
-rows (variable ∷ b0 ∷ b1 ∷ b2 ∷ b3 ∷ lines) = row variable (to_z w32 (b0 + b1 * 256 + b2 * 65536 + b3 * 16777216)) ++ rows lines
+rows (variable ∷ b0 ∷ b1 ∷ b2 ∷ b3 ∷ lines) = row variable (cast_signed w32 (b0 + b1 * 256 + b2 * 65536 + b3 * 16777216)) ++ rows lines
 
 -- The text of a sheet with so many lines.
 abbrev pub sheet_text : ℕ → List ℕ → List ℕ

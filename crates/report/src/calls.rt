@@ -33,7 +33,7 @@ fn push_sets(calls: &mut Vec<Call>, input: &Input) -> Result<(), AllocError>
     Ok(())
 }
 
-// The calls that the bench makes for an input.
+// The calls that are made for an input.
 pub fn calls<'x>(heap: Global, input: &'x Input<'x>) -> Result<Vec<Call<'x>>, AllocError>
     ensures { IfOk result (λ calls. map call_of calls.items ≡ calls_of input.now.bytes.now) }
 {

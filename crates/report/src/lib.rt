@@ -1,4 +1,4 @@
-// The bench's work: from the bytes of an input to a list of calls, and from its transcript to the text of a report.
+// From the bytes of a bench input to a list of calls, and from its transcript to the text of a report.
 #![tactic(auto)]
 
 mod calls;

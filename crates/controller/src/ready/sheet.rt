@@ -1,5 +1,5 @@
 ghost use Rattle.std.specs.Prelude.{◌≡◌, ◌*◌, ◌<◌, ◌≤◌, ◌++◌, length, drop};
-ghost use Rattle.controller.specs.Sheet.{is_open, line as LineOf, open_count, sheet as sheet_of};
+ghost use Rattle.controller.specs.Sheet.{is_open, line as line_of, open_count, sheet as sheet_of};
 ghost use Rattle.controller.specs.Of.{ready_state};
 
 use super::Ready;
@@ -15,7 +15,7 @@ pub const SHEET: usize = 160;
 // Writes a variable's number and value.
 fn write_line(line: &mut [u8], variable: u8, value: i32)
     requires { length line.old ≡ 5 }
-    ensures { line.new ≡ LineOf variable value }
+    ensures { line.new ≡ line_of variable value }
 {
     let [b0, b1, b2, b3] = value.to_le_bytes();
     line.copy_from_slice(&[variable, b0, b1, b2, b3]);
