@@ -9,14 +9,13 @@ case ${1-} in '' | --callgrind) ;; *) echo "usage: $0 [--callgrind]" >&2; exit 2
 cd "$(dirname "$0")/.."
 out=target/benchmarks
 mkdir -p "$out"
-rt staticlib boundary >"$out/staticlib.log" 2>&1 || { cat "$out/staticlib.log" >&2; exit 1; }
-kit=$(dirname "$(dirname "$(rt doc)")")
+(cd crates/boundary && rt lib) >"$out/lib.log" 2>&1 || { cat "$out/lib.log" >&2; exit 1; }
 
 # Four times the same program, its code moved by 16 bytes each.
 places='0 16 32 48'
 for place in $places; do
     gcc -O2 -std=c11 -D_POSIX_C_SOURCE=199309L -Wall -Wextra -fno-toplevel-reorder -DPLACE="$place" benchmarks/bench.c \
-        target/staticlib/libboundary.a "$kit/lib/librattle_c.a" -o "$out/bench$place"
+        crates/boundary/out/libboundary.a -o "$out/bench$place"
 done
 
 if [ "${1-}" != --callgrind ]; then
