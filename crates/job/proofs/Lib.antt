@@ -1,3 +1,2 @@
 pub mod AllBelow
-pub mod Parts
 pub mod Stacks

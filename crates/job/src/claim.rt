@@ -4,20 +4,20 @@ ghost use Rattle.job.specs.Records.{all_below, like_a_place, like_a_claim, claim
 ghost use Rattle.job.specs.declared.claim.Place.TheVariants.{IntegerAt};
 ghost use Rattle.job.specs.Of.{sizes, claim_says, claimed};
 
-use crate::part::{byte, part, tail, two, zeros};
+use crate::part::{byte, tail, two, zeros};
 use crate::reader::Job;
 use push::Kind;
 
-// What a label claims: the depth of its stack, the level that surrounds it, and where in the job its record stands.
+// What a label claims: the depth of its stack, the level that surrounds it, and the record that holds its places.
 #[derive(Clone, Copy)]
-pub struct Claim {
+pub struct Claim<'a> {
     pub depth: u8,
     pub surrounding: u16,
-    pub at: usize,
+    record: &'a [u8],
 }
 
 // A claimed stack place: a kind and a level.
-#[derive(Clone, Copy)]
+#[derive(Clone, Copy, PartialEq, Eq, Debug)]
 pub enum Place {
     IntegerAt(u16),
     BooleanAt(u16),
@@ -67,15 +67,23 @@ fn is_place(span: u32, record: &[u8], place: u16) -> bool
 fn are_places(span: u32, record: &[u8], depth: u8) -> bool
     ensures { result ≡ all_below (like_a_place span «record».now) depth }
 {
-    for place in 0..u16::from(depth) {
-        if !is_place(span, record, place) {
-            return false;
-        }
-    }
-    true
+    (0..u16::from(depth)).all(|place| is_place(span, record, place))
 }
 
-impl Job<'_> {
+impl Claim<'_> {
+    // A stack place, the top being 0; an integer of level 0 below the bottom.
+    pub fn place(&self, place: u16) -> Place
+        ensures { result ≡ slice_index_or (claim_says self.now).stack place (IntegerAt 0) }
+    {
+        if place < u16::from(self.depth) {
+            place_in(self.record, place)
+        } else {
+            Place::IntegerAt(0)
+        }
+    }
+}
+
+impl<'a> Job<'a> {
     // Whether a claim record is like its description, over a lattice of so many levels.
     pub fn has_claim_record(&self, span: u32, label: u16) -> bool
         ensures { result ≡ like_a_claim span (sizes self.now).places (claim_record self.now.bytes.now (sizes self.now) label) }
@@ -95,30 +103,17 @@ impl Job<'_> {
     }
 
     // The claim of a label, if it has one.
-    pub fn claim(&self, label: u16) -> Option<Claim>
-        ensures { claimed self.now result ≡ claim_in (claim_record self.now.bytes.now (sizes self.now) label) }
+    pub fn claim(&self, label: u16) -> Option<Claim<'a>>
+        ensures { claimed result ≡ claim_in (claim_record self.now.bytes.now (sizes self.now) label) }
     {
-        let (at, record) = self.claim_record(label);
-        if byte(record, 0) == 0 {
-            return None;
+        let (_, record) = self.claim_record(label);
+        match byte(record, 0) {
+            0 => None,
+            _ => Some(Claim {
+                depth: byte(record, 1),
+                surrounding: two(record, 2),
+                record,
+            }),
         }
-        Some(Claim {
-            depth: byte(record, 1),
-            surrounding: two(record, 2),
-            at,
-        })
-    }
-
-    // A stack place of a claim, the top being 0; an integer of level 0 below its bottom.
-    pub fn place(&self, claim: Claim, place: u16) -> Place
-        ensures { result ≡ slice_index_or (claim_says self.now claim).stack place (IntegerAt 0) }
-    {
-        if place >= u16::from(claim.depth) {
-            return Place::IntegerAt(0);
-        }
-        place_in(
-            part(self.bytes, claim.at, 4 + 3 * usize::from(self.places)),
-            place,
-        )
     }
 }

@@ -2,7 +2,7 @@ ghost use Rattle.std.specs.Prelude.{◌≡◌};
 ghost use Rattle.job.specs.Faults.{read_number, record_number};
 
 // What is wrong with a job's opening or its length.
-#[derive(Clone, Copy)]
+#[derive(Clone, Copy, PartialEq, Eq, Debug)]
 pub enum ReadFault {
     // Fewer than four bytes.
     TooShort,
@@ -15,7 +15,7 @@ pub enum ReadFault {
 }
 
 // What is wrong with a record.
-#[derive(Clone, Copy)]
+#[derive(Clone, Copy, PartialEq, Eq, Debug)]
 pub enum RecordFault {
     // An instruction record that is unlike its description.
     Instruction,
@@ -23,12 +23,12 @@ pub enum RecordFault {
     Claim,
 }
 
-impl ReadFault {
-    // The number that mount answers.
-    pub fn number(self) -> u8
-        ensures { result ≡ read_number self }
-    {
-        match self {
+// The number that mount answers.
+impl From<ReadFault> for u8 {
+    ghost from_gives = { λ fault number. number ≡ read_number fault };
+
+    fn from(fault: ReadFault) -> u8 {
+        match fault {
             ReadFault::TooShort => 4,
             ReadFault::TooManyInstructions => 5,
             ReadFault::TooManyPlaces => 6,
@@ -37,12 +37,12 @@ impl ReadFault {
     }
 }
 
-impl RecordFault {
-    // The number that mount answers.
-    pub fn number(self) -> u8
-        ensures { result ≡ record_number self }
-    {
-        match self {
+// The number that mount answers.
+impl From<RecordFault> for u8 {
+    ghost from_gives = { λ fault number. number ≡ record_number fault };
+
+    fn from(fault: RecordFault) -> u8 {
+        match fault {
             RecordFault::Instruction => 8,
             RecordFault::Claim => 9,
         }

@@ -5,7 +5,7 @@ ghost use Rattle.job.specs.Records.{two as two_of, zeros as zeros_of};
 pub(crate) fn tail<'a>(bytes: &'a [u8], at: usize) -> &'a [u8]
     ensures { result.now ≡ drop at bytes.now }
 {
-    &bytes[at.min(bytes.len())..]
+    bytes.get(at..).unwrap_or(&[])
 }
 
 // So many bytes from a place on, as far as there are bytes.
@@ -13,14 +13,14 @@ pub(crate) fn part<'a>(bytes: &'a [u8], at: usize, len: usize) -> &'a [u8]
     ensures { result.now ≡ take len (drop at bytes.now) }
 {
     let rest = tail(bytes, at);
-    &rest[0..len.min(rest.len())]
+    rest.get(..len).unwrap_or(rest)
 }
 
 // The byte at a place; 0 past the end.
 pub(crate) fn byte(bytes: &[u8], at: usize) -> u8
     ensures { result ≡ slice_index bytes.now at }
 {
-    if at < bytes.len() { bytes[at] } else { 0 }
+    bytes.get(at).copied().unwrap_or(0)
 }
 
 // A number of two bytes, lower byte first.
@@ -35,10 +35,5 @@ pub(crate) fn two(bytes: &[u8], at: u32) -> u16
 pub(crate) fn zeros(bytes: &[u8]) -> bool
     ensures { result ≡ zeros_of bytes.now }
 {
-    for at in 0..bytes.len() {
-        if bytes[at] != 0 {
-            return false;
-        }
-    }
-    true
+    bytes.iter().all(|byte| *byte == 0)
 }

@@ -1,17 +1,15 @@
-use Rattle.std.proofs.Common.{◌≡◌, eqb, length, get_or, sym, arith}
-use Rattle.std.proofs.lemmas.Bool.{eq-eqb, ne_eqb}
-use Rattle.job.proofs.AllBelow.{all_none, all_more, all_spoilt}
+use Rattle.std.proofs.Common.{rules, eqb, length, ap, ◌∙◌, sym, arith}
+use borrow.Author.Tests.{tests}
+use Rattle.std.specs.List.{list_all}
+use Rattle.std.proofs.lemmas.Iterator.{YieldsList-from_slice}
+use Rattle.std.proofs.lemmas.Iterator.Search.{all_from_yields_List}
+use Rattle.std.proofs.lemmas.List.{take_all}
+use Rattle.job.proofs.AllBelow.{all_taken}
 use Rattle.job.proofs.part.zeros.Goals as goal
 
-pub loop-at-init : goal.loop-at-init
-loop-at-init c = all_none _
-
-pub loop-at-preserved : goal.loop-at-preserved
-loop-at-preserved c = all_more (λ k. eqb (get_or c.args.bytes.now k 0) 0) c.loop-at.at c.loop-at.invariant (eq-eqb _ 0 (omega arith))
-
-pub returns-then-bytes-at-ne0 : goal.returns-then-bytes-at-ne0
-returns-then-bytes-at-ne0 c =
-    sym (all_spoilt (λ k. eqb (get_or c.args.bytes.now k 0) 0) c.loop-at.at (length c.args.bytes.now) (ne_eqb _ 0 (λ e. omega arith)) c.loop-at-test.true)
-
 pub returns : goal.returns
-returns c = let all : c.loop-at.at ≡ length c.args.bytes.now = omega arith in sym (rw all at c.loop-at.invariant)
+returns c =
+    let bytes = c.args.bytes.now in
+    all_from_yields_List (λ byte. eqb byte 0) _ _ _ c.all.ensures.ran (YieldsList-from_slice bytes cc) (λ x b q k. search (rules, tests))
+    ∙ ap (list_all (λ byte. eqb byte 0)) (sym (take_all (length bytes) bytes (omega arith)))
+    ∙ all_taken (λ byte. eqb byte 0) bytes (length bytes) (omega arith)
