@@ -1,13 +1,15 @@
 -- The first label at which a rule breaks, one label at a time. Assumes nothing.
-use Rattle.std.proofs.Common.{◌≡◌, ℕ, suc, ◌+◌, ◌<◌, cond, eqb, sym, refl, ap, ◌∙◌, add-one, arith}
+use Rattle.std.proofs.Common.{◌≡◌, ℕ, suc, ◌+◌, ◌<◌, cond, eqb, ⊎_elim, sym, refl, ap, ◌∙◌, add-one, arith}
 use native.Mathlib.Decide.{le_ind}
-use Rattle.std.proofs.lemmas.Bool.{cond-true, cond-false, eq-eqb, ne_eqb}
+use Rattle.std.proofs.lemmas.Bool.{cond-true, cond-false, eq-eqb, ne_eqb, cases_eq}
+use Rattle.job.specs.declared.fault.ReadFault.TheVariants as read
 use Rattle.job.specs.declared.fault.RecordFault.{RecordFault}
 use Rattle.job.specs.declared.fault.RecordFault.TheVariants as faults
 use Rattle.job.specs.Faults.{record_number}
-use Rattle.checker.specs.declared.fault.Rule.{Rule}
+use Rattle.checker.specs.declared.fault.MountFault.{MountFault}
+use Rattle.checker.specs.declared.fault.MountFault.TheVariants as mount
 use Rattle.checker.specs.declared.fault.Rule.TheVariants.{Entry, Stack, Store, Successor, RegionExit, RegionLevel}
-use Rattle.checker.specs.Faults.{rule_number}
+use Rattle.checker.specs.Faults.{fault_answer}
 use Rattle.checker.specs.Verdict.{first_below}
 
 module _ (rule : ℕ → ℕ) where
@@ -34,14 +36,30 @@ module _ (rule : ℕ → ℕ) where
   pub first_found : (n m number : ℕ) → first_below rule n ≡ (0, 0) → number ≡ rule n → (number ≡ 0 → ⊥) → n < m → (number, n) ≡ first_below rule m
   first_found n m number h e some within = ap (λ k. (k, n)) e ∙ sym (found n m h (λ z. some (e ∙ z)) within)
 
-pub rule_is_some : (rule : Rule) → rule_number rule ≡ 0 → ⊥
-rule_is_some Entry e = omega arith
-rule_is_some Stack e = omega arith
-rule_is_some Store e = omega arith
-rule_is_some Successor e = omega arith
-rule_is_some RegionExit e = omega arith
-rule_is_some RegionLevel e = omega arith
-
 pub record_is_some : (fault : RecordFault) → record_number fault ≡ 0 → ⊥
 record_is_some faults.Instruction e = omega arith
 record_is_some faults.Claim e = omega arith
+
+-- what a label's answer tells of the rule that it answers by
+module _ (rule n : ℕ) where
+  pub was_kept : ◌≡◌ {A = ℕ × ℕ} (0, 0) (cond (eqb rule 0) (0, 0) (rule, n)) → rule ≡ 0
+  was_kept h =
+      ⊎_elim (λ (none : rule ≡ 0). none) (λ (some : rule ≡ 0 → ⊥). sym (ap (λ v. v.0) (h ∙ cond-false (eqb rule 0) (0, 0) (rule, n) (ne_eqb rule 0 some)))) (cases_eq rule 0)
+
+  pub was_broken : (v : ℕ × ℕ) → (v.0 ≡ 0 → ⊥) → v ≡ cond (eqb rule 0) (0, 0) (rule, n) → (rule ≡ 0 → ⊥) × ◌≡◌ {A = ℕ × ℕ} v (rule, n)
+  was_broken v some h =
+      let broken : rule ≡ 0 → ⊥ = λ none. some (ap (λ w. w.0) (h ∙ cond-true (eqb rule 0) (0, 0) (rule, n) (eq-eqb rule 0 none))) in
+      (broken, h ∙ cond-false (eqb rule 0) (0, 0) (rule, n) (ne_eqb rule 0 broken))
+
+pub fault_is_some : (fault : MountFault) → (fault_answer fault).0 ≡ 0 → ⊥
+fault_is_some (mount.Read read.TooShort) e = omega arith
+fault_is_some (mount.Read read.TooManyInstructions) e = omega arith
+fault_is_some (mount.Read read.TooManyPlaces) e = omega arith
+fault_is_some (mount.Read read.WrongLength) e = omega arith
+fault_is_some (mount.Record fault label) e = record_is_some fault e
+fault_is_some (mount.Claims Entry label) e = omega arith
+fault_is_some (mount.Claims Stack label) e = omega arith
+fault_is_some (mount.Claims Store label) e = omega arith
+fault_is_some (mount.Claims Successor label) e = omega arith
+fault_is_some (mount.Claims RegionExit label) e = omega arith
+fault_is_some (mount.Claims RegionLevel label) e = omega arith

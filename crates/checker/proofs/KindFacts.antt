@@ -1,23 +1,25 @@
--- A stack of kinds that begins with some, place by place. Assumes nothing.
-use Rattle.std.proofs.Common.{◌≡◌, ℕ, ◌+◌, ◌<◌, ◌≤◌, true, false, ◌&&◌, List, length, get_or, drop, ap, ◌∙◌, ap₂}
-use Rattle.std.proofs.lemmas.List.{drop_all, drop_more}
-use Rattle.std.proofs.lemmas.Bool.{and_left}
+-- A stack that begins with places of some kinds, place by place. Assumes nothing.
+use Rattle.std.proofs.Common.{◌≡◌, ℕ, zero, suc, ◌+◌, ◌<◌, ◌≤◌, Bool, false, ◌&&◌, List, [], ◌∷◌, map, length, get_or, drop, refl, ap, ◌∙◌, arith}
+use Rattle.std.specs.List.{list_all, range_with_len, zip}
+use Rattle.std.proofs.lemmas.List.{drop_more}
+use Rattle.std.proofs.lemmas.Bool.{and_right}
 use Rattle.push.specs.declared.kind.Kind.{Kind}
 use Rattle.push.specs.Language.{same_kind, begins}
+use Rattle.job.specs.declared.claim.Place.{Place}
+use Rattle.job.specs.Records.{kind}
 
-module _ (ks xs : List Kind) (i : ℕ) (d : Kind) (hk : i < length ks) where
-  module _ (hx : i < length xs) where
-    one_more : begins (drop i ks) (drop i xs) ≡ (same_kind (get_or ks i d) (get_or xs i d) && begins (drop (i + 1) ks) (drop (i + 1) xs))
-    one_more = ap₂ begins (drop_more ks i d hk) (drop_more xs i d hx)
+-- whether a place has a kind
+abbrev pub has_kind : List Place → Place → Kind × ℕ → Bool
+has_kind stack d at = same_kind at.0 (kind (get_or stack at.1 d))
 
-    pub begins_so_far : same_kind (get_or ks i d) (get_or xs i d) ≡ true → begins (drop i ks) (drop i xs) ≡ begins (drop (i + 1) ks) (drop (i + 1) xs)
-    begins_so_far h = one_more ∙ ap (λ b. b && begins (drop (i + 1) ks) (drop (i + 1) xs)) h
+pub begins_at : (ks : List Kind) (stack : List Place) (d : Place) (a n : ℕ) → a + n ≡ length stack → length ks ≤ n → begins ks (map kind (drop a stack)) ≡ list_all (has_kind stack d) (zip ks (range_with_len a n))
+begins_at [] stack d a n e h = refl
+begins_at (k ∷ ks) stack d a zero e h = absurd (omega arith)
+begins_at (k ∷ ks) stack d a (suc n) e h =
+    ap (λ s. begins (k ∷ ks) (map kind s)) (drop_more stack a d (omega arith))
+    ∙ ap (λ b. same_kind k (kind (get_or stack a d)) && b) (begins_at ks stack d (a + 1) n (omega arith) (omega arith))
 
-    pub begins_otherwise : same_kind (get_or ks i d) (get_or xs i d) ≡ false → begins (drop i ks) (drop i xs) ≡ false
-    begins_otherwise h = one_more ∙ and_left (same_kind (get_or ks i d) (get_or xs i d)) (begins (drop (i + 1) ks) (drop (i + 1) xs)) h
-
-  pub ends_before : length xs ≤ i → begins (drop i ks) (drop i xs) ≡ false
-  ends_before h = ap₂ begins (drop_more ks i d hk) (drop_all i xs h)
-
-pub begins_all : (ks xs : List Kind) (i : ℕ) → length ks ≤ i → begins (drop i ks) (drop i xs) ≡ true
-begins_all ks xs i h = ap (λ k. begins k (drop i xs)) (drop_all i ks h)
+pub too_many : (ks : List Kind) (stack : List Place) → length stack < length ks → begins ks (map kind stack) ≡ false
+too_many [] stack h = absurd (omega arith)
+too_many (k ∷ ks) [] h = refl
+too_many (k ∷ ks) (p ∷ stack) h = and_right (same_kind k (kind p)) (begins ks (map kind stack)) (too_many ks stack (omega arith))

@@ -1,7 +1,8 @@
 -- What leaves a label, place by place. Assumes nothing.
-use Rattle.std.proofs.Common.{◌≡◌, ℕ, zero, suc, ◌+◌, ◌-◌, ◌<◌, ◌≤◌, true, false, ◌&&◌, List, [], ◌∷◌, ◌++◌, map, length, get_or, drop, Some, None, Option, refl, ap, ◌∙◌, ap₂, arith, length-append, length-drop, get_or-drop}
+use Rattle.std.proofs.Common.{◌≡◌, ℕ, zero, suc, ◌+◌, ◌-◌, ◌<◌, Bool, false, ◌&&◌, List, [], ◌∷◌, ◌++◌, map, length, get_or, drop, Some, None, Option, refl, ap, ◌∙◌, ap₂, arith, length-append, length-drop, get_or-drop}
+use Rattle.std.specs.List.{list_all, range_with_len}
 use Rattle.std.proofs.lemmas.List.{length-map, get_or-map, drop_all, drop_more}
-use Rattle.std.proofs.lemmas.Bool.{and_left, and_right}
+use Rattle.std.proofs.lemmas.Bool.{and_right}
 use Rattle.lattice.specs.Order.{Order}
 use Rattle.push.specs.declared.instruction.Instruction.{Instruction}
 use Rattle.push.specs.declared.instruction.Instruction.TheVariants.{Load, Store, Push, Add, Sub, Eq, Less, Not, Goto, GotoF}
@@ -47,15 +48,13 @@ module _ (o : Order) where
   lengths_differ (x ∷ xs) [] h = refl
   lengths_differ (x ∷ xs) (y ∷ ys) h = and_right (fits_under o x y) (all_fit_under o xs ys) (lengths_differ xs ys (λ e. h (ap suc e)))
 
-  module _ (xs ys : List Place) (i : ℕ) (d : Place) (hx : i < length xs) (hy : i < length ys) where
-    one_more : all_fit_under o (drop i xs) (drop i ys) ≡ (fits_under o (get_or xs i d) (get_or ys i d) && all_fit_under o (drop (i + 1) xs) (drop (i + 1) ys))
-    one_more = ap₂ (all_fit_under o) (drop_more xs i d hx) (drop_more ys i d hy)
+  module _ (xs ys : List Place) (d : Place) where
+    -- whether a place fits under the one that is as deep
+    abbrev pub fits_at : ℕ → Bool
+    fits_at i = fits_under o (get_or xs i d) (get_or ys i d)
 
-    pub fit_so_far : fits_under o (get_or xs i d) (get_or ys i d) ≡ true → all_fit_under o (drop i xs) (drop i ys) ≡ all_fit_under o (drop (i + 1) xs) (drop (i + 1) ys)
-    fit_so_far h = one_more ∙ ap (λ b. b && all_fit_under o (drop (i + 1) xs) (drop (i + 1) ys)) h
-
-    pub fit_no_more : fits_under o (get_or xs i d) (get_or ys i d) ≡ false → all_fit_under o (drop i xs) (drop i ys) ≡ false
-    fit_no_more h = one_more ∙ and_left (fits_under o (get_or xs i d) (get_or ys i d)) (all_fit_under o (drop (i + 1) xs) (drop (i + 1) ys)) h
-
-  pub fit_to_end : (xs ys : List Place) (i : ℕ) → length xs ≤ i → length ys ≤ i → all_fit_under o (drop i xs) (drop i ys) ≡ true
-  fit_to_end xs ys i hx hy = ap₂ (all_fit_under o) (drop_all i xs hx) (drop_all i ys hy)
+    pub all_fit_at : (a n : ℕ) → a + n ≡ length xs → a + n ≡ length ys → all_fit_under o (drop a xs) (drop a ys) ≡ list_all fits_at (range_with_len a n)
+    all_fit_at a zero ex ey = ap₂ (all_fit_under o) (drop_all a xs (omega arith)) (drop_all a ys (omega arith))
+    all_fit_at a (suc n) ex ey =
+        ap₂ (all_fit_under o) (drop_more xs a d (omega arith)) (drop_more ys a d (omega arith))
+        ∙ ap (λ b. fits_at a && b) (all_fit_at (a + 1) n (omega arith) (omega arith))

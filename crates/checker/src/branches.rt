@@ -9,6 +9,13 @@ use crate::rules::Rules;
 use lattice::Lattice;
 use push::Instruction;
 
+// The marks of a branch's region, and the level of the boolean that the branch pops.
+#[derive(Drop)]
+struct Region {
+    guard: u16,
+    marks: Marks,
+}
+
 impl<L: Lattice> Rules<'_, L> {
     // Whether label 0 claims the empty stack that a run begins with.
     pub(crate) fn check_entry(&self) -> Result<(), Rule>
@@ -17,52 +24,44 @@ impl<L: Lattice> Rules<'_, L> {
         if self.program.len() == 0 {
             return Ok(());
         }
-        let Some(claim) = self.job.claim(0) else {
-            return Err(Rule::Entry);
-        };
-        if claim.depth > 0 {
-            return Err(Rule::Entry);
+        match self.job.claim(0) {
+            Some(claim) if claim.depth == 0 => Ok(()),
+            _ => Err(Rule::Entry),
         }
-        Ok(())
     }
 
     // Whether the surrounding level of a label is at least a branch's.
     fn is_at_least(&self, guard: u16, label: u16) -> bool
         ensures { result ≡ claim_at_least (L.Lattice.order self.now.lattice.now) guard ((job_of self.now).claim label) }
     {
-        match self.job.claim(label) {
-            Some(claim) => self.lattice.at_most(guard, claim.surrounding),
-            None => false,
-        }
+        self.job
+            .claim(label)
+            .is_some_and(|claim| self.lattice.at_most(guard, claim.surrounding))
     }
 
-    // Whether a label is not marked, or its surrounding level is at least a branch's.
-    fn is_clear(&self, guard: u16, marks: &Marks, label: u16) -> bool
-        ensures { result ≡ is_clear_of (L.Lattice.order self.now.lattice.now) (job_of self.now) guard marks.now.at label }
+    // Whether a label is not marked, or its surrounding level is at least the branch's.
+    fn is_clear(&self, region: &Region, label: u16) -> bool
+        ensures { result ≡ is_clear_of (L.Lattice.order self.now.lattice.now) (job_of self.now) region.now.guard region.now.marks.at label }
     {
-        !marks.has(usize::from(label)) || self.is_at_least(guard, label)
+        !region.marks.has(usize::from(label)) || self.is_at_least(region.guard, label)
     }
 
-    // Whether the surrounding level of every marked label is at least a branch's.
-    fn marked_at_least(&self, guard: u16, marks: &Marks) -> bool
-        ensures { result ≡ marked_at_least_of (L.Lattice.order self.now.lattice.now) (job_of self.now) guard marks.now.at }
+    // Whether the surrounding level of every marked label is at least the branch's.
+    fn marked_at_least(&self, region: &Region) -> bool
+        ensures { result ≡ marked_at_least_of (L.Lattice.order self.now.lattice.now) (job_of self.now) region.now.guard region.now.marks.at }
     {
-        for label in 0..self.program.len() {
-            if !self.is_clear(guard, marks, label as u16) {
-                return false;
-            }
-        }
-        true
+        let exit = self.program.len() as u16;
+        (0..exit).all(|label| self.is_clear(region, label))
     }
 
     // Whether the region of a branch keeps away from the exit and is raised.
-    fn check_region(&self, guard: u16, marks: &Marks) -> Result<(), Rule>
-        ensures { rule_answer result ≡ region_rule (L.Lattice.order self.now.lattice.now) (job_of self.now) guard marks.now.at }
+    fn check_region(&self, region: &Region) -> Result<(), Rule>
+        ensures { rule_answer result ≡ region_rule (L.Lattice.order self.now.lattice.now) (job_of self.now) region.now.guard region.now.marks.at }
     {
-        if marks.has(self.program.len()) {
+        if region.marks.has(self.program.len()) {
             return Err(Rule::RegionExit);
         }
-        if !self.marked_at_least(guard, marks) {
+        if !self.marked_at_least(region) {
             return Err(Rule::RegionLevel);
         }
         Ok(())
@@ -76,10 +75,10 @@ impl<L: Lattice> Rules<'_, L> {
             return Ok(());
         };
         match self.program.fetch(usize::from(label)) {
-            Some(Instruction::GotoF { junction, .. }) => {
-                let marks = Marks::region(self.program, junction, label);
-                self.check_region(self.level_at(claim, 0), &marks)
-            }
+            Some(Instruction::GotoF { junction, .. }) => self.check_region(&Region {
+                guard: claim.place(0).level(),
+                marks: Marks::region(self.program, junction, label),
+            }),
             _ => Ok(()),
         }
     }

@@ -1,10 +1,11 @@
 ghost use Rattle.std.specs.Prelude.{◌≡◌};
 ghost use Rattle.checker.specs.Faults.{rule_number, fault_answer};
+ghost use Rattle.checker.specs.declared.fault.MountFault.TheVariants.{Read};
 
 use job::{ReadFault, RecordFault};
 
 // A rule of claims.
-#[derive(Clone, Copy)]
+#[derive(Clone, Copy, PartialEq, Eq, Debug)]
 pub enum Rule {
     // Label 0 has no claim, or claims a stack that is not empty.
     Entry,
@@ -21,19 +22,19 @@ pub enum Rule {
 }
 
 // Why a job is refused: what is wrong with its bytes as a whole, or with a record or a rule at a label.
-#[derive(Clone, Copy)]
+#[derive(Clone, Copy, PartialEq, Eq, Debug)]
 pub enum MountFault {
     Read(ReadFault),
     Record(RecordFault, u16),
     Claims(Rule, u16),
 }
 
-impl Rule {
-    // The number that mount answers.
-    pub fn number(self) -> u8
-        ensures { result ≡ rule_number self }
-    {
-        match self {
+// The number that mount answers.
+impl From<Rule> for u8 {
+    ghost from_gives = { λ rule number. number ≡ rule_number rule };
+
+    fn from(rule: Rule) -> u8 {
+        match rule {
             Rule::Entry => 10,
             Rule::Stack => 11,
             Rule::Store => 12,
@@ -44,15 +45,23 @@ impl Rule {
     }
 }
 
-impl MountFault {
-    // The number and the label that mount answers.
-    pub fn answer(self) -> (u8, u16)
-        ensures { result ≡ fault_answer self }
-    {
-        match self {
-            MountFault::Read(fault) => (fault.number(), 0),
-            MountFault::Record(fault, label) => (fault.number(), label),
-            MountFault::Claims(rule, label) => (rule.number(), label),
+impl From<ReadFault> for MountFault {
+    ghost from_gives = { λ fault mount_fault. mount_fault ≡ Read fault };
+
+    fn from(fault: ReadFault) -> MountFault {
+        MountFault::Read(fault)
+    }
+}
+
+// The number and the label that mount answers.
+impl From<MountFault> for (u8, u16) {
+    ghost from_gives = { λ fault answer. answer ≡ fault_answer fault };
+
+    fn from(fault: MountFault) -> (u8, u16) {
+        match fault {
+            MountFault::Read(fault) => (u8::from(fault), 0),
+            MountFault::Record(fault, label) => (u8::from(fault), label),
+            MountFault::Claims(rule, label) => (u8::from(rule), label),
         }
     }
 }

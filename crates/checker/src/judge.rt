@@ -5,7 +5,7 @@ ghost use Rattle.job.specs.Of.{sizes};
 ghost use Rattle.checker.specs.Faults.{mount_answer};
 ghost use Rattle.checker.specs.Rules.{label_rule, exit};
 ghost use Rattle.checker.specs.Verdict.{claimed_job, first_below, instruction_rule, claim_rule, branch_rule, code_below, rules_verdict, decoded_code, verdict as verdict_of};
-ghost use Rattle.checker.specs.Of.{levels_of, job_of};
+ghost use Rattle.checker.specs.Of.{levels_of, job_of, FindsFirstFault};
 ghost use Rattle.checker.specs.Region.{MarksAreTheRegion};
 ghost use Rattle.checker.specs.WellClaimed.{Judged};
 ghost use Rattle.checker.specs.Flow.{AcceptedJobsNeverFault, AcceptedJobsKeepClosed};
@@ -24,26 +24,38 @@ fn decode(job: &Job) -> Result<Program, MountFault>
 {
     let mut program = Program::empty();
     for label in 0..job.exit() {
-        match job.instruction(label) {
-            Ok(instruction) => {
-                let _ = program.add(instruction);
-            }
-            Err(fault) => return Err(MountFault::Record(fault, label)),
-        }
+        let instruction = job
+            .instruction(label)
+            .map_err(|fault| MountFault::Record(fault, label))?;
+        let _ = program.add(instruction);
     }
     Ok(program)
+}
+
+// The fault of the first label below an end that has one.
+fn first_fault<F: Fn(u8) -> Result<(), MountFault>>(end: u8, fault_at: F) -> Result<(), MountFault>
+    requires { F.IsAlwaysCallable fault_at }
+    ensures { FindsFirstFault (F.post fault_at) end result }
+{
+    for label in 0..end {
+        fault_at(label)?;
+    }
+    Ok(())
 }
 
 // Sees that every claim record of a job is like its description.
 fn check_records<L: Lattice>(lattice: &L, job: &Job) -> Result<(), MountFault>
     ensures { mount_answer result ≡ first_below (claim_rule (L.Lattice.order lattice.now) job.now.bytes.now (sizes job.now)) (sizes job.now).instructions }
 {
-    for label in 0..job.exit() {
-        if !job.has_claim_record(lattice.span(), label) {
-            return Err(MountFault::Record(RecordFault::Claim, label));
+    let span = lattice.span();
+    first_fault(job.exit() as u8, |label| {
+        let label = u16::from(label);
+        if job.has_claim_record(span, label) {
+            Ok(())
+        } else {
+            Err(MountFault::Record(RecordFault::Claim, label))
         }
-    }
-    Ok(())
+    })
 }
 
 impl<L: Lattice> Rules<'_, L> {
@@ -51,33 +63,28 @@ impl<L: Lattice> Rules<'_, L> {
     fn check_labels(&self) -> Result<(), MountFault>
         ensures { mount_answer result ≡ first_below (label_rule (L.Lattice.order self.now.lattice.now) (levels_of self.now) (job_of self.now)) (exit (job_of self.now)) }
     {
-        for label in 0..self.program.len() {
-            if let Err(rule) = self.check_label(label as u8) {
-                return Err(MountFault::Claims(rule, label as u16));
-            }
-        }
-        Ok(())
+        first_fault(self.program.len() as u8, |label| {
+            self.check_label(label)
+                .map_err(|rule| MountFault::Claims(rule, u16::from(label)))
+        })
     }
 
     // The first branch that breaks a rule of regions.
     fn check_branches(&self) -> Result<(), MountFault>
         ensures { mount_answer result ≡ first_below (branch_rule (L.Lattice.order self.now.lattice.now) (job_of self.now)) (exit (job_of self.now)) }
     {
-        for label in 0..self.program.len() {
-            if let Err(rule) = self.check_branch(label as u8) {
-                return Err(MountFault::Claims(rule, label as u16));
-            }
-        }
-        Ok(())
+        first_fault(self.program.len() as u8, |label| {
+            self.check_branch(label)
+                .map_err(|rule| MountFault::Claims(rule, u16::from(label)))
+        })
     }
 
     // The first rule of claims that the job breaks.
     fn check_claims(&self) -> Result<(), MountFault>
         ensures { mount_answer result ≡ rules_verdict (L.Lattice.order self.now.lattice.now) (levels_of self.now) (job_of self.now) }
     {
-        if let Err(rule) = self.check_entry() {
-            return Err(MountFault::Claims(rule, 0));
-        }
+        self.check_entry()
+            .map_err(|rule| MountFault::Claims(rule, 0))?;
         self.check_labels()?;
         self.check_branches()
     }
@@ -106,16 +113,11 @@ fn judge_bytes<L: Lattice>(lattice: &L, levels: &[u16], bytes: &[u8]) -> Result<
     ensures verdict { mount_answer result ≡ verdict_of (L.Lattice.order lattice.now) levels.now bytes.now }
     ensures program { IfOk result (λ p. code p ≡ decoded_code bytes.now (opening bytes.now)) }
 {
-    let job = match Job::read(bytes) {
-        Ok(job) => job,
-        Err(fault) => return Err(MountFault::Read(fault)),
-    };
+    let job = Job::read(bytes)?;
     let program = decode(&job)?;
     check_records(lattice, &job)?;
-    match check_rules(lattice, levels, job, &program) {
-        Ok(()) => Ok(program),
-        Err(fault) => Err(fault),
-    }
+    check_rules(lattice, levels, job, &program)?;
+    Ok(program)
 }
 
 // The verdict on a job over a lattice and the levels of the variables, and the program where it is accepted.

@@ -1,139 +1,162 @@
-ghost use Rattle.std.specs.Prelude.{◌≡◌, ◌<◌, ◌≤◌, length, slice_index, slice_index_or};
+ghost use Rattle.std.specs.Prelude.{◌≡◌, ◌≤◌, length, map, slice_index, slice_index_or};
 ghost use Rattle.job.specs.declared.claim.Place.TheVariants.{IntegerAt};
 ghost use Rattle.job.specs.Of.{claim_says};
-ghost use Rattle.checker.specs.Leaving.{joined_one as joined_one_of, joined_two as joined_two_of, pushed as pushed_of, raised as raised_of, leaves, level_at, fits_under as fits_under_of, all_fit_under};
-ghost use Rattle.checker.specs.Of.{levels_of};
+ghost use Rattle.push.specs.Language.{begins as begins_of};
+ghost use Rattle.job.specs.Records.{kind as kind_of};
+ghost use Rattle.checker.specs.Leaving.{joined_one as joined_one_of, joined_two as joined_two_of, pushed as pushed_of, raised as raised_of, level_at, fits_under as fits_under_of, all_fit_under};
+ghost use Rattle.checker.specs.Rules.{fits_its_stack as fits_its_stack_of, stores_upward as stores_upward_of};
+ghost use Rattle.checker.specs.Of.{says, leaves_of};
 
-use crate::rules::Rules;
 use job::{Claim, Place};
 use lattice::Lattice;
-use push::Instruction;
+use push::{Instruction, Kind, STACK_PLACES};
 
-impl<L: Lattice> Rules<'_, L> {
+// A label's claim and its instruction, over a lattice and the levels of the variables: what leaves the label, and whether
+// the label may have such a claim.
+#[derive(Drop)]
+pub(crate) struct Leaving<'a, L> {
+    pub(crate) lattice: &'a L,
+    pub(crate) levels: &'a [u16],
+    pub(crate) claim: Claim<'a>,
+    pub(crate) instruction: Instruction,
+}
+
+impl<L: Lattice> Leaving<'_, L> {
     // The level of a variable; 0 for one that there is not.
-    pub(crate) fn variable_level(&self, variable: u8) -> u16
-        ensures { result ≡ slice_index (levels_of self.now) variable }
+    fn variable_level(&self, variable: u8) -> u16
+        ensures { result ≡ slice_index self.now.levels.now variable }
     {
-        let at = usize::from(variable);
-        if at < self.levels.len() {
-            self.levels[at]
-        } else {
-            0
-        }
+        self.levels.get(usize::from(variable)).copied().unwrap_or(0)
     }
 
     // The level of a claimed stack place, the top being 0.
-    pub(crate) fn level_at(&self, claim: Claim, place: u16) -> u16
-        ensures { result ≡ level_at (claim_says self.now.job claim).stack place }
+    fn level_at(&self, place: u16) -> u16
+        ensures { result ≡ level_at (says self.now).stack place }
     {
-        self.job.place(claim, place).level()
+        self.claim.place(place).level()
     }
 
     // The level of a result of one operand.
-    pub(crate) fn joined_one(&self, claim: Claim) -> u16
-        ensures { result ≡ joined_one_of (L.Lattice.order self.now.lattice.now) (claim_says self.now.job claim) }
+    fn joined_one(&self) -> u16
+        ensures { result ≡ joined_one_of (L.Lattice.order self.now.lattice.now) (says self.now) }
     {
-        self.lattice
-            .join(self.level_at(claim, 0), claim.surrounding)
+        self.lattice.join(self.level_at(0), self.claim.surrounding)
     }
 
     // The level of a result of two operands.
-    fn joined_two(&self, claim: Claim) -> u16
-        ensures { result ≡ joined_two_of (L.Lattice.order self.now.lattice.now) (claim_says self.now.job claim) }
+    fn joined_two(&self) -> u16
+        ensures { result ≡ joined_two_of (L.Lattice.order self.now.lattice.now) (says self.now) }
     {
-        let operands = self
-            .lattice
-            .join(self.level_at(claim, 0), self.level_at(claim, 1));
-        self.lattice.join(operands, claim.surrounding)
+        let operands = self.lattice.join(self.level_at(0), self.level_at(1));
+        self.lattice.join(operands, self.claim.surrounding)
     }
 
-    // The place that an instruction pushes.
-    fn pushed(&self, claim: Claim, instruction: Instruction) -> Option<Place>
-        ensures { result ≡ pushed_of (L.Lattice.order self.now.lattice.now) (levels_of self.now) (claim_says self.now.job claim) instruction }
+    // The place that the instruction pushes.
+    fn pushed(&self) -> Option<Place>
+        ensures { result ≡ pushed_of (L.Lattice.order self.now.lattice.now) self.now.levels.now (says self.now) self.now.instruction }
     {
-        match instruction {
+        match self.instruction {
             Instruction::Load(variable) => {
                 let level = self
                     .lattice
-                    .join(self.variable_level(variable), claim.surrounding);
+                    .join(self.variable_level(variable), self.claim.surrounding);
                 Some(Place::IntegerAt(level))
             }
-            Instruction::Push(_) => Some(Place::IntegerAt(claim.surrounding)),
-            Instruction::Add | Instruction::Sub => Some(Place::IntegerAt(self.joined_two(claim))),
-            Instruction::Eq | Instruction::Less => Some(Place::BooleanAt(self.joined_two(claim))),
-            Instruction::Not => Some(Place::BooleanAt(self.joined_one(claim))),
+            Instruction::Push(_) => Some(Place::IntegerAt(self.claim.surrounding)),
+            Instruction::Add | Instruction::Sub => Some(Place::IntegerAt(self.joined_two())),
+            Instruction::Eq | Instruction::Less => Some(Place::BooleanAt(self.joined_two())),
+            Instruction::Not => Some(Place::BooleanAt(self.joined_one())),
             Instruction::Store(_) | Instruction::Goto(_) | Instruction::GotoF { .. } => None,
         }
     }
 
-    // A place that an instruction leaves where it was.
-    fn raised(&self, claim: Claim, instruction: Instruction, place: Place) -> Place
-        ensures { result ≡ raised_of (L.Lattice.order self.now.lattice.now) (claim_says self.now.job claim) instruction place }
+    // A place that the instruction leaves where it was.
+    fn raised(&self, place: Place) -> Place
+        ensures { result ≡ raised_of (L.Lattice.order self.now.lattice.now) (says self.now) self.now.instruction place }
     {
-        let Instruction::GotoF { .. } = instruction else {
+        let Instruction::GotoF { .. } = self.instruction else {
             return place;
         };
-        let guard = self.level_at(claim, 0);
+        let guard = self.level_at(0);
         match place {
             Place::IntegerAt(level) => Place::IntegerAt(self.lattice.join(guard, level)),
             Place::BooleanAt(level) => Place::BooleanAt(self.lattice.join(guard, level)),
         }
     }
 
-    // Whether a leaving place has the claimed kind, and a level at most the claimed one.
-    fn fits_under(&self, leaving: Place, claimed: Place) -> bool
-        ensures { result ≡ fits_under_of (L.Lattice.order self.now.lattice.now) leaving claimed }
-    {
-        match (leaving, claimed) {
-            (Place::IntegerAt(a), Place::IntegerAt(b))
-            | (Place::BooleanAt(a), Place::BooleanAt(b)) => { self.lattice.at_most(a, b) }
-            _ => false,
-        }
-    }
-
     // How many places leave.
-    pub(crate) fn leaving_depth(&self, claim: Claim, instruction: Instruction) -> u16
-        ensures value { result ≡ length (leaves (L.Lattice.order self.now.lattice.now) (levels_of self.now) (claim_says self.now.job claim) instruction) }
+    pub(crate) fn depth(&self) -> u16
+        ensures value { result ≡ length (leaves_of (L.Lattice.order self.now.lattice.now) self.now) }
         ensures bound { result ≤ 256 }
     {
-        let left = u16::from(claim.depth).saturating_sub(instruction.popped());
-        match instruction.pushes() {
+        let left = u16::from(self.claim.depth).saturating_sub(self.instruction.popped());
+        match self.instruction.pushes() {
             Some(_) => left + 1,
             None => left,
         }
     }
 
-    // A place that leaves, the top being 0.
-    fn leaving(&self, claim: Claim, instruction: Instruction, place: u16) -> Place
-        requires { place ≤ 256 }
-        ensures { place < length (leaves (L.Lattice.order self.now.lattice.now) (levels_of self.now) (claim_says self.now.job claim) instruction) → result ≡ slice_index_or (leaves (L.Lattice.order self.now.lattice.now) (levels_of self.now) (claim_says self.now.job claim) instruction) place (IntegerAt 0) }
+    // A place that leaves, the top being 0; an integer of level 0 below the bottom.
+    fn place(&self, place: u16) -> Place
+        ensures { result ≡ slice_index_or (leaves_of (L.Lattice.order self.now.lattice.now) self.now) place (IntegerAt 0) }
     {
-        let below = match (self.pushed(claim, instruction), place) {
+        if place >= self.depth() {
+            return Place::IntegerAt(0);
+        }
+        let below = match (self.pushed(), place) {
             (Some(pushed), 0) => return pushed,
             (Some(_), _) => place - 1,
             (None, _) => place,
         };
-        self.raised(
-            claim,
-            instruction,
-            self.job.place(claim, below + instruction.popped()),
-        )
+        let at = below + self.instruction.popped();
+        self.raised(self.claim.place(at))
+    }
+
+    // Whether a leaving place has the claimed kind, and a level at most the claimed one.
+    fn fits_under(&self, leaving: Place, claimed: Place) -> bool
+        ensures { result ≡ fits_under_of (L.Lattice.order self.now.lattice.now) leaving claimed }
+    {
+        leaving.kind() == claimed.kind() && self.lattice.at_most(leaving.level(), claimed.level())
     }
 
     // Whether all that leaves fits under a claimed stack.
-    pub(crate) fn leaves_under(&self, claim: Claim, instruction: Instruction, next: Claim) -> bool
-        ensures { result ≡ all_fit_under (L.Lattice.order self.now.lattice.now) (leaves (L.Lattice.order self.now.lattice.now) (levels_of self.now) (claim_says self.now.job claim) instruction) (claim_says self.now.job next).stack }
+    pub(crate) fn all_fit_under(&self, next: Claim) -> bool
+        ensures { result ≡ all_fit_under (L.Lattice.order self.now.lattice.now) (leaves_of (L.Lattice.order self.now.lattice.now) self.now) (claim_says next.entry).stack }
     {
-        let depth = self.leaving_depth(claim, instruction);
-        if depth != u16::from(next.depth) {
-            return false;
-        }
-        for place in 0..depth {
-            let leaving = self.leaving(claim, instruction, place);
-            if !self.fits_under(leaving, self.job.place(next, place)) {
-                return false;
+        let depth = self.depth();
+        depth == u16::from(next.depth)
+            && (0..depth).all(|place| self.fits_under(self.place(place), next.place(place)))
+    }
+
+    // Whether the claimed stack begins with places of these kinds.
+    fn begins(&self, kinds: &[Kind]) -> bool
+        ensures { result ≡ begins_of kinds.now (map kind_of (says self.now).stack) }
+    {
+        let depth = u16::from(self.claim.depth);
+        kinds.len() <= usize::from(depth)
+            && kinds
+                .iter()
+                .zip(0..depth)
+                .all(|(kind, place)| *kind == self.claim.place(place).kind())
+    }
+
+    // Whether a stack of the claimed depth and kinds does not fault.
+    pub(crate) fn fits_its_stack(&self) -> bool
+        ensures { result ≡ fits_its_stack_of (says self.now) self.now.instruction }
+    {
+        self.begins(self.instruction.pops()) && usize::from(self.depth()) <= STACK_PLACES
+    }
+
+    // Whether what is stored goes to a variable whose level is high enough.
+    pub(crate) fn stores_upward(&self) -> bool
+        ensures { result ≡ stores_upward_of (L.Lattice.order self.now.lattice.now) self.now.levels.now (says self.now) self.now.instruction }
+    {
+        match self.instruction {
+            Instruction::Store(variable) => {
+                self.lattice
+                    .at_most(self.joined_one(), self.variable_level(variable))
             }
+            _ => true,
         }
-        true
     }
 }

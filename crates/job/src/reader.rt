@@ -1,4 +1,4 @@
-ghost use Rattle.std.specs.Prelude.{◌≡◌, IfOk};
+ghost use Rattle.std.specs.Prelude.{◌≡◌, ◌<◌, IfOk};
 ghost use Rattle.job.specs.Layout.{opening, instruction_place, instruction_record, claim_place, claim_record};
 ghost use Rattle.job.specs.Of.{sizes, sizes_read};
 
@@ -42,7 +42,8 @@ impl<'a> Job<'a> {
 
     // How many instructions there are; this is the exit's label.
     pub fn exit(&self) -> u16
-        ensures { result ≡ (sizes self.now).instructions }
+        ensures value { result ≡ (sizes self.now).instructions }
+        ensures bound { result < 256 }
     {
         u16::from(self.instructions)
     }

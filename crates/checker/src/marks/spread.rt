@@ -18,11 +18,7 @@ impl Marks {
     pub(crate) fn has(&self, label: usize) -> bool
         ensures { result ≡ slice_index_or self.now.at label false }
     {
-        if label < LABELS {
-            self.at[label]
-        } else {
-            false
-        }
+        self.at.get(label).copied().unwrap_or(false)
     }
 
     // Marks a label that is not the junction.
@@ -32,6 +28,7 @@ impl Marks {
         if label == u16::from(junction) {
             return;
         }
+        // Not by `get_mut`: after a write through what it lends of an array, a proof knows no element.
         let at = usize::from(label);
         if at < LABELS {
             self.at[at] = true;

@@ -1,9 +1,11 @@
-use Rattle.std.proofs.Common.{◌≡◌, ◌+◌, ◌<◌, cond, [], ◌∷◌, ◌++◌, length, sym, ap, ◌∙◌, arith, length-append}
+use Rattle.std.proofs.Common.{rules, ◌≡◌, ◌+◌, ◌<◌, Ok, cond, [], ◌∷◌, ◌++◌, length, sym, ap, ◌∙◌, arith, length-append}
 use Rattle.std.proofs.lemmas.Bool.{lt-ltb}
+use Rattle.std.proofs.lemmas.Result.{err_from_is_err_and}
 use Rattle.push.specs.Code.{code}
 use Rattle.job.specs.Of.{sizes}
+use Rattle.job.specs.Records.{instruction_read}
 use Rattle.checker.specs.Verdict.{instruction_at, instruction_rule, unlike_instruction}
-use Rattle.checker.proofs.DecodeFacts.{code_none, code_more, was_read, not_read}
+use Rattle.checker.proofs.DecodeFacts.{code_none, code_more, was_read, not_read, of_record}
 use Rattle.checker.proofs.FirstFacts.{first_none, first_more, first_found, record_is_some}
 use Rattle.checker.proofs.judge.decode.Goals as goal
 
@@ -15,11 +17,12 @@ loop-label-preserved c =
     let job = c.args.job.now in
     let bytes = job.bytes.now in
     let s = sizes job in
-    let n = c.loop-label.label in
+    let n = c.loop-label.label-counter in
     let before = code c.loop-label.program in
-    let i = c.in-Ok.instruction in
-    let read = was_read (instruction_at bytes s n) i c.in-Ok.ensures in
-    let few : length before < 128 = omega (arith, c.loop-label.invariant.2, c.exit-label-end.ensures, c.requires) in
+    let i = c.in_ok-instruction.instruction in
+    let told : Ok i ≡ instruction_read (instruction_at bytes s n) = search (rules, c.map_err.ensures.cases, c.in_ok-instruction.was) in
+    let read = was_read (instruction_at bytes s n) i told in
+    let few : length before < 128 = omega (arith, c.loop-label.invariant.2, c.exit-label-end.ensures.value, c.requires) in
     let added : code c.add.new.self ≡ before ++ (i ∷ []) =
     c.add.ensures.after ∙ ap (λ b. cond b (before ++ (i ∷ [])) before) (c.add.ensures.room ∙ lt-ltb (length before) 128 few) in (
       first_more (instruction_rule bytes s) n c.loop-label.invariant.0 (ap unlike_instruction read),
@@ -27,18 +30,12 @@ loop-label-preserved c =
       ap length added ∙ length-append before (i ∷ []) ∙ ap (λ k. k + 1) c.loop-label.invariant.2,
     )
 
-pub returns-in-Err : goal.returns-in-Err
-returns-in-Err c =
+pub returns-in_err-instruction-clause-verdict : goal.returns-in_err-instruction-clause-verdict
+returns-in_err-instruction-clause-verdict c =
     let job = c.args.job.now in
     let bytes = job.bytes.now in
     let s = sizes job in
-    record {
-      verdict =
-          first_found (instruction_rule bytes s) c.loop-label.label s.instructions _ c.loop-label.invariant.0 (not_read (instruction_at bytes s c.loop-label.label) c.in-Err.fault c.in-Err.ensures) (record_is_some c.in-Err.fault) (omega (arith, c.exit-label-end.ensures));
-      program = tt;
-    }
-
-pub returns : goal.returns
-returns c =
-    let all : c.loop-label.label ≡ (sizes c.args.job.now).instructions = omega (arith, c.exit-label-end.ensures) in
-    record { verdict = sym (rw all at c.loop-label.invariant.0); program = rw all at c.loop-label.invariant.1 }
+    let n = c.loop-label.label-counter in
+    let p = err_from_is_err_and c.from_residual.result c.from_residual.ensures.1 in
+    let of = of_record c.instruction.result c.map_err.result c.in_err-instruction.field-0.0 n c.map_err.ensures.cases c.in_err-instruction.was (λ fault g k. search rules) in
+    rw (p.1, p.2, of.2) (first_found (instruction_rule bytes s) n s.instructions _ c.loop-label.invariant.0 (not_read (instruction_at bytes s n) of.0 (of.1 ∙ c.instruction.ensures)) (record_is_some of.0) (omega (arith, c.exit-label-end.ensures.value)))

@@ -8,4 +8,4 @@ abbrev pub invariant-loop-label : goal.invariant-loop-label
 invariant-loop-label l =
     let bytes = l.job.bytes.now in
     let s = sizes l.job in
-    (first_below (instruction_rule bytes s) l.label ≡ (0, 0)) × (code l.program ≡ code_below bytes s l.label) × (length (code l.program) ≡ l.label)
+    (first_below (instruction_rule bytes s) l.label-counter ≡ (0, 0)) × (code l.program ≡ code_below bytes s l.label-counter) × (length (code l.program) ≡ l.label-counter)

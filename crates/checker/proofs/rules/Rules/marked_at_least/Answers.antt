@@ -1,24 +1,17 @@
-use Rattle.std.proofs.Common.{◌≡◌, sym, arith}
-use Rattle.job.proofs.AllBelow.{all_none, all_more, all_spoilt}
-use Rattle.checker.specs.Rules.{exit}
+use Rattle.std.proofs.Common.{rules, ap, ◌∙◌, arith}
+use borrow.Author.Tests.{tests}
+use Rattle.std.proofs.lemmas.Iterator.{YieldsList-from_range}
+use Rattle.std.proofs.lemmas.Iterator.Search.{all_from_yields_List}
+use Rattle.job.specs.Records.{all_below}
+use Rattle.job.proofs.AllBelow.{all_of_range}
 use Rattle.checker.specs.Verdict.{is_clear}
 use Rattle.checker.specs.Of.{job_of}
 use Rattle.checker.proofs.rules.Rules.marked_at_least.Goals as goal
 
-pub loop-label-init : goal.loop-label-init
-loop-label-init g c = all_none _
-
-pub loop-label-preserved : goal.loop-label-preserved
-loop-label-preserved g c =
-    let self = c.args.self.now in
-    all_more (is_clear (g.L.Lattice.order self.lattice.now) (job_of self) c.args.guard c.args.marks.now.at) c.loop-label.label c.loop-label.invariant (sym c.if-not-is_clear.ensures)
-
-pub returns-then-not-is_clear : goal.returns-then-not-is_clear
-returns-then-not-is_clear g c =
-    let self = c.args.self.now in
-    sym (all_spoilt (is_clear (g.L.Lattice.order self.lattice.now) (job_of self) c.args.guard c.args.marks.now.at) c.loop-label.label (exit (job_of self)) (sym c.if-not-is_clear.ensures) (omega (arith, c.len-label-end.ensures)))
-
 pub returns : goal.returns
 returns g c =
-    let all : c.loop-label.label ≡ exit (job_of c.args.self.now) = omega (arith, c.len-label-end.ensures) in
-    sym (rw all at c.loop-label.invariant)
+    let self = c.args.self.now in
+    let region = c.args.region.now in
+    let clear = is_clear (g.L.Lattice.order self.lattice.now) (job_of self) region.guard region.marks.at in
+    all_from_yields_List clear _ _ _ c.all.ensures.ran (YieldsList-from_range 0 c.len-exit.result c.len-exit.result (cc) (omega arith)) (λ x b q k. search (rules, tests))
+    ∙ all_of_range clear c.len-exit.result ∙ ap (all_below clear) c.len-exit.ensures

@@ -1,23 +1,22 @@
 use Rattle.std.proofs.Common.{◌≡◌, ◌+◌, ◌-◌, ◌<◌, length, get_or, sym, ap, ◌∙◌, arith}
 use Rattle.push.specs.Language.{pops}
 use Rattle.job.specs.declared.claim.Place.TheVariants.{IntegerAt}
-use Rattle.job.specs.Of.{claim_says}
 use Rattle.checker.specs.Leaving.{pushed, raised}
-use Rattle.checker.specs.Of.{levels_of}
+use Rattle.checker.specs.Of.{says, leaves_of}
 use Rattle.checker.proofs.LeavingFacts.{below_none, below_pushed}
-use Rattle.checker.proofs.rules.Rules.leaving.Goals as goal
-use Rattle.checker.proofs.rules.Rules.leaving.Goals.{in-Some-default, in-None-default}
+use Rattle.checker.proofs.leaving.Leaving.place.Goals as goal
+use Rattle.checker.proofs.leaving.Leaving.place.Goals.{in-Some-default, in-None-default}
 
 pub returns : goal.returns
-returns g c h =
+returns g c =
     let self = c.args.self.now in
     let o = g.L.Lattice.order self.lattice.now in
-    let says = claim_says self.job c.args.claim in
-    let i = c.args.instruction in
-    let f = raised o says i in
+    let i = self.instruction in
+    let f = raised o (says self) i in
     let k = length (pops i) in
-    let p = pushed o (levels_of self) says i in
-    let stack = says.stack in
+    let p = pushed o self.levels.now (says self) i in
+    let stack = (says self).stack in
+    let h : c.args.place < length (leaves_of o self) = omega (arith, c.depth.ensures.value) in
     elim c.match-pushed.branch [
       | in-Some-default w ↦
           let some : 0 < c.args.place = omega arith in
