@@ -25,7 +25,7 @@ fn run_from_zeros(program: Program, budget: u32) -> u64
 {
     let mut run = Run::begin(program, [0; VARIABLES]);
     let (status, steps) = run.advance(budget);
-    u64::from(status.number()) * 0x1_0000_0000 + u64::from(steps)
+    u64::from(u8::from(status)) * 0x1_0000_0000 + u64::from(steps)
 }
 
 // The verdict on a job, over a ladder of 16 with every variable at level 0: number × 65,536 + label, and 0 if accepted.

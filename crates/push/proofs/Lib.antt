@@ -1,3 +1,4 @@
+pub mod KindFacts
 pub mod Fetches
 pub mod StackFacts
 pub mod StepFacts

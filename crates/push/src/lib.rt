@@ -12,7 +12,7 @@ mod value;
 
 pub use instruction::Instruction;
 pub use kind::Kind;
-pub use program::Program;
+pub use program::{Program, ProgramFull};
 pub use run::Run;
 pub use status::Status;
 

@@ -13,3 +13,7 @@ pub struct Program {
     ghost sized: { length table ≡ 128 },
     ghost within: { len ≤ 128 },
 }
+
+// There are 128 instructions already.
+#[derive(Clone, Copy, PartialEq, Eq, Debug)]
+pub struct ProgramFull;

@@ -12,12 +12,12 @@ pub enum Status {
     Faulted,
 }
 
-impl Status {
-    // The number that an advance answers for it.
-    pub fn number(self) -> u8
-        ensures { result ≡ status_number self }
-    {
-        match self {
+// The number that an advance answers for it.
+impl From<Status> for u8 {
+    ghost from_gives = { λ status number. number ≡ status_number status };
+
+    fn from(status: Status) -> u8 {
+        match status {
             Status::Going => 0,
             Status::Halted => 1,
             Status::Faulted => 2,

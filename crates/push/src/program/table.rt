@@ -1,7 +1,7 @@
-ghost use Rattle.std.specs.Prelude.{◌≡◌, ◌<◌, true, false, [], ◌∷◌, ◌++◌, length, is_some, if◌then◌else◌, Some, None, nat_lt};
+ghost use Rattle.std.specs.Prelude.{◌≡◌, ◌<◌, true, false, [], ◌∷◌, ◌++◌, length, is_ok, is_some, if◌then◌else◌, Some, None, nat_lt};
 ghost use Rattle.push.specs.Code.{code, fetch as fetch_of};
 
-use super::Program;
+use super::{Program, ProgramFull};
 use crate::INSTRUCTIONS;
 use crate::instruction::Instruction;
 
@@ -23,17 +23,17 @@ impl Program {
         self.len
     }
 
-    // Adds an instruction at the end; false and nothing added where there are 128.
-    pub fn add(&mut self, instruction: Instruction) -> bool
-        ensures room { result ≡ nat_lt (length (code self.old)) 128 }
-        ensures after { code self.new ≡ (if result then code self.old ++ (instruction ∷ []) else code self.old) }
+    // Adds an instruction at the end; where there are 128, nothing is added.
+    pub fn add(&mut self, instruction: Instruction) -> Result<(), ProgramFull>
+        ensures room { is_ok result ≡ nat_lt (length (code self.old)) 128 }
+        ensures after { code self.new ≡ (if is_ok result then code self.old ++ (instruction ∷ []) else code self.old) }
     {
         if self.len >= INSTRUCTIONS {
-            return false;
+            return Err(ProgramFull);
         }
         self.table[self.len] = instruction;
         self.len += 1;
-        true
+        Ok(())
     }
 
     // The instruction at a label; none at the exit and past it.
@@ -41,10 +41,7 @@ impl Program {
         ensures value { result ≡ fetch_of (code self.now) label }
         ensures within { is_some result ≡ true → label < 128 }
     {
-        match self.look(label) {
-            Some(instruction) => Some(*instruction),
-            None => None,
-        }
+        self.look(label).copied()
     }
 
     // The same, lent and not copied: a step then reads no more of it than it needs.
