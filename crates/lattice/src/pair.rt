@@ -64,7 +64,8 @@ impl<A: Lattice, B: Lattice> Pair<A, B> {
 
     // The level of two parts that are ends; 0 where there are no levels.
     fn end(&self, first: u16, second: u16) -> u16
-        requires { 0 < pair_span (A.Lattice.order self.now.first) (B.Lattice.order self.now.second) → (first < (A.Lattice.order self.now.first).span) × (second < (B.Lattice.order self.now.second).span) }
+        requires first_level { 0 < (A.Lattice.order self.now.first).span → first < (A.Lattice.order self.now.first).span }
+        requires second_level { 0 < (B.Lattice.order self.now.second).span → second < (B.Lattice.order self.now.second).span }
         ensures { result ≡ cond (nat_lt 0 (pair_span (A.Lattice.order self.now.first) (B.Lattice.order self.now.second))) (code_of_lem (B.Lattice.order self.now.second) first second) 0 }
     {
         if self.span() == 0 {
