@@ -5,7 +5,7 @@ ghost use Rattle.lattice.specs.LadderLaws.{ladder_laws};
 use crate::lattice::{Lattice, among_levels, are_levels};
 
 // Grades in the order of the numbers.
-#[derive(Drop)]
+#[derive(Clone, Copy, Debug, PartialEq, Eq)]
 pub struct Ladder {
     grades: u16,
 }

@@ -5,7 +5,7 @@ ghost use Rattle.lattice.specs.OwnersLaws.{owners_laws};
 use crate::lattice::{Lattice, among_levels, are_levels};
 
 // Sets of owners: bit i of a code stands for owner i, and a set is at most each set that holds all its owners.
-#[derive(Drop)]
+#[derive(Clone, Copy, Debug, PartialEq, Eq)]
 pub struct Owners {
     count: u8,
 }

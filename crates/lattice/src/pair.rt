@@ -5,7 +5,7 @@ ghost use Rattle.lattice.specs.PairLaws.{pair_laws};
 use crate::lattice::Lattice;
 
 // Two lattices side by side. A code is first × (span of the second) + second.
-#[derive(Drop)]
+#[derive(Clone, Debug, PartialEq, Eq, Drop)]
 pub struct Pair<A, B> {
     first: A,
     second: B,
