@@ -1,4 +1,4 @@
-ghost use Rattle.std.specs.Prelude.{◌≡◌, ℕ, ◌*◌, ◌<◌, ◌≤◌, ◌&&◌, MatchBool, cond, nat_lt};
+ghost use Rattle.std.specs.Prelude.{◌≡◌, ℕ, Some, ◌*◌, ◌<◌, ◌≤◌, ◌&&◌, MatchBool, cond, nat_lt};
 ghost use Rattle.lattice.specs.Kinds.{pair as pair_order, pair_span, pair_at_most, code as code_of_lem, parts_of, PartsAreLevels, KeepsLevels, IsPartByPart, levels};
 ghost use Rattle.lattice.specs.PairLaws.{pair_laws};
 
@@ -36,7 +36,7 @@ impl<A: Lattice, B: Lattice> Pair<A, B> {
 
     // The level of two parts.
     fn compose(&self, first: u16, second: u16) -> u16
-        requires { (first < (A.Lattice.order self.now.first).span) × ((second < (B.Lattice.order self.now.second).span) × ((A.Lattice.order self.now.first).span * (B.Lattice.order self.now.second).span ≤ 65536)) }
+        requires { PartsAreLevels (A.Lattice.order self.now.first) (B.Lattice.order self.now.second) (Some (first, second)) }
         ensures { result ≡ code_of_lem (B.Lattice.order self.now.second) first second }
     {
         (u32::from(first) * self.second.span() + u32::from(second)) as u16
