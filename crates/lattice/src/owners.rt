@@ -27,6 +27,7 @@ impl Lattice for Owners {
     ghost lawful = { λ s. owners_laws s.count };
 
     fn span(&self) -> u32 {
+        // A checked shift would refuse from 32 owners on, and not from 17.
         if self.count > 16 { 0 } else { 1 << self.count }
     }
 
