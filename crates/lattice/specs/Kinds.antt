@@ -1,5 +1,5 @@
 -- The kinds of lattice, each by its six answers. Assumes nothing.
-use Rattle.std.specs.Prelude.{ℕ, ◌+◌, ◌-◌, ◌*◌, ◌/◌, ◌%◌, ◌^◌, ◌<◌, ◌≤◌, min, max, Bool, cond, ◌&&◌, Some, None, Option, bit_and, bit_or, nat_eq, nat_le, nat_lt}
+use Rattle.std.specs.Prelude.{◌≡◌, ℕ, ◌+◌, ◌-◌, ◌*◌, ◌/◌, ◌%◌, ◌^◌, ◌<◌, ◌≤◌, min, max, Bool, cond, ◌&&◌, Some, None, Option, bit_and, bit_or, nat_eq, nat_le, nat_lt}
 use Rattle.lattice.specs.Order.{Order}
 
 -- both codes are levels
@@ -61,3 +61,12 @@ parts_of o p a = cond (nat_lt a (pair_span o p)) (Some (a / p.span, a % p.span))
 abbrev pub PartsAreLevels : Order → Order → Option (ℕ × ℕ) → Type 0
 PartsAreLevels o p None = Unit {0}
 PartsAreLevels o p (Some parts) = (parts.0 < o.span) × (parts.1 < p.span) × (o.span * p.span ≤ 65536)
+
+-- What is given of two levels is a level.
+abbrev pub KeepsLevels : Order → (ℕ → ℕ → ℕ → Type 0) → Type 0
+KeepsLevels o gives = (a b x : ℕ) → a < o.span → b < o.span → gives a b x → x < o.span
+
+-- The code of what is given of the first parts and of the second parts of two codes.
+abbrev pub IsPartByPart : Order → (ℕ → ℕ → ℕ → Type 0) → (ℕ → ℕ → ℕ → Type 0) → ℕ → ℕ → ℕ → Type 0
+IsPartByPart p first second a b x =
+    (y z : ℕ) × first (a / p.span) (b / p.span) y × second (a % p.span) (b % p.span) z × (x ≡ code p y z)

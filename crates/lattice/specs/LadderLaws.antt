@@ -4,8 +4,7 @@ use Rattle.std.proofs.Common.{arith}
 use Rattle.std.proofs.lemmas.Bool.{leb-true, le-leb}
 use Rattle.lattice.specs.Order.{Laws}
 use Rattle.lattice.specs.Kinds.{ladder, ladder_span}
-use Rattle.lattice.specs.Meaning.{LadderGoesByNumber}
-use Rattle.lattice.specs.AmongLevels.{parts, put, laws_among_levels}
+use Rattle.lattice.specs.AmongLevels.{laws_among_levels}
 
 pub ladder_laws : (grades : ℕ) → Laws (ladder grades)
 ladder_laws grades =
@@ -28,12 +27,3 @@ ladder_laws grades =
       highest_level = λ h. omega arith;
       highest_greatest = λ a h. le-leb a (ladder_span grades - 1) (omega arith);
     }
-
--- at_most says that both are levels and that a is no more than b
-pub ladder_goes_by_number : LadderGoesByNumber
-ladder_goes_by_number grades a b small = (
-  λ h.
-      let p = parts (ladder_span grades) nat_le a b h in
-      (omega (arith, p.0), omega (arith, p.1), leb-true a b p.2),
-  λ h. put (ladder_span grades) nat_le a b (omega arith) (omega arith) (le-leb a b h.2),
-)

@@ -5,8 +5,7 @@ use Rattle.std.proofs.lemmas.Nat.{div-add-mod', mul-add-lt, div-mul-add, mod-mul
 use Rattle.std.proofs.lemmas.Bool.{cond_both, leb-true, and_parts, and_from}
 use Rattle.lattice.specs.Order.{Order, Laws}
 use Rattle.lattice.specs.Kinds.{pair, pair_span, pair_at_most, part_by_part, code}
-use Rattle.lattice.specs.Meaning.{PairGoesByParts}
-use Rattle.lattice.specs.AmongLevels.{parts, put, laws_among_levels}
+use Rattle.lattice.specs.AmongLevels.{laws_among_levels}
 use Rattle.lattice.specs.Levels.{join_level, meet_level, lowest_level, highest_level}
 
 some_factor : (m n a : ℕ) → a < m * n → 0 < n
@@ -35,9 +34,6 @@ module _ (o p : Order) where
   pub second_part : (a : ℕ) → a < pair_span o p → a % p.span < p.span
   second_part a h = mod_below a p.span (second_span a h)
 
-  pub product_bound : (a : ℕ) → a < pair_span o p → o.span * p.span ≤ 65536
-  product_bound a h = rw (product a h) at pair_span_bound
-
   code_level : (a x y : ℕ) → a < pair_span o p → x < o.span → y < p.span → code p x y < pair_span o p
   code_level a x y h hx hy = rw (product a h) (omega (arith, mul-add-lt x p.span y o.span hx hy))
 
@@ -58,16 +54,6 @@ module _ (o p : Order) where
   over_code a x y hy h k =
       together (code p x y) a (subst (λ n. o.at_most n (a / p.span) ≡ true) (sym (div-mul-add x p.span y hy)) h)
       (subst (λ n. p.at_most n (a % p.span) ≡ true) (sym (mod-mul-add x p.span y hy)) k)
-
--- at_most says that both are levels and that both parts are at most
-pub pair_goes_by_parts : PairGoesByParts
-pair_goes_by_parts o p a b = (
-  λ h.
-      let all = parts (pair_span o p) (pair_at_most o p) a b h in
-      let each = apart o p a b all.2 in
-      (all.0, all.1, each.0, each.1),
-  λ h. put (pair_span o p) (pair_at_most o p) a b h.0 h.1 (together o p a b h.2 h.3),
-)
 
 module _ (o p : Order) (lo : Laws o) (lp : Laws p) where
   pub pair_laws : Laws (pair o p)

@@ -5,7 +5,7 @@ ghost use Rattle.lattice.specs.FlipLaws.{flip_laws};
 use crate::lattice::Lattice;
 
 // A lattice upside down.
-#[derive(Drop)]
+#[derive(Clone, Debug, PartialEq, Eq, Drop)]
 pub struct Flip<L> {
     below: L,
 }

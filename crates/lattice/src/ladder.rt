@@ -2,10 +2,10 @@ ghost use Rattle.std.specs.Prelude.{◌≡◌, ℕ, ◌&&◌, nat_le};
 ghost use Rattle.lattice.specs.Kinds.{ladder as ladder_order, levels};
 ghost use Rattle.lattice.specs.LadderLaws.{ladder_laws};
 
-use crate::lattice::Lattice;
+use crate::lattice::{Lattice, among_levels, are_levels};
 
 // Grades in the order of the numbers.
-#[derive(Drop)]
+#[derive(Clone, Copy, Debug, PartialEq, Eq)]
 pub struct Ladder {
     grades: u16,
 }
@@ -30,23 +30,15 @@ impl Lattice for Ladder {
     }
 
     fn at_most(&self, a: u16, b: u16) -> bool {
-        self.is_level(a) && self.is_level(b) && a <= b
+        are_levels(self.span(), a, b) && a <= b
     }
 
     fn join(&self, a: u16, b: u16) -> u16 {
-        if self.is_level(a) && self.is_level(b) {
-            a.max(b)
-        } else {
-            0
-        }
+        among_levels(self.span(), a, b, u16::max)
     }
 
     fn meet(&self, a: u16, b: u16) -> u16 {
-        if self.is_level(a) && self.is_level(b) {
-            a.min(b)
-        } else {
-            0
-        }
+        among_levels(self.span(), a, b, u16::min)
     }
 
     fn lowest(&self) -> u16 {

@@ -2,10 +2,10 @@ ghost use Rattle.std.specs.Prelude.{◌≡◌, ℕ, ◌&&◌, ◌==◌, bit_and}
 ghost use Rattle.lattice.specs.Kinds.{owners as owners_order, owners_span, levels};
 ghost use Rattle.lattice.specs.OwnersLaws.{owners_laws};
 
-use crate::lattice::Lattice;
+use crate::lattice::{Lattice, among_levels, are_levels};
 
 // Sets of owners: bit i of a code stands for owner i, and a set is at most each set that holds all its owners.
-#[derive(Drop)]
+#[derive(Clone, Copy, Debug, PartialEq, Eq)]
 pub struct Owners {
     count: u8,
 }
@@ -27,27 +27,20 @@ impl Lattice for Owners {
     ghost lawful = { λ s. owners_laws s.count };
 
     fn span(&self) -> u32 {
+        // A checked shift would refuse from 32 owners on, and not from 17.
         if self.count > 16 { 0 } else { 1 << self.count }
     }
 
     fn at_most(&self, a: u16, b: u16) -> bool {
-        self.is_level(a) && self.is_level(b) && a & b == a
+        are_levels(self.span(), a, b) && a & b == a
     }
 
     fn join(&self, a: u16, b: u16) -> u16 {
-        if self.is_level(a) && self.is_level(b) {
-            a | b
-        } else {
-            0
-        }
+        among_levels(self.span(), a, b, |a, b| a | b)
     }
 
     fn meet(&self, a: u16, b: u16) -> u16 {
-        if self.is_level(a) && self.is_level(b) {
-            a & b
-        } else {
-            0
-        }
+        among_levels(self.span(), a, b, |a, b| a & b)
     }
 
     fn lowest(&self) -> u16 {
@@ -55,9 +48,6 @@ impl Lattice for Owners {
     }
 
     fn highest(&self) -> u16 {
-        match self.span() {
-            0 => 0,
-            span => (span - 1) as u16,
-        }
+        self.span().saturating_sub(1) as u16
     }
 }

@@ -1,11 +1,11 @@
-ghost use Rattle.std.specs.Prelude.{◌≡◌, ℕ, ◌*◌, ◌<◌, ◌≤◌, ◌&&◌};
-ghost use Rattle.lattice.specs.Kinds.{pair as pair_order, pair_span, pair_at_most, code as code_of_lem, parts_of, PartsAreLevels, levels};
+ghost use Rattle.std.specs.Prelude.{◌≡◌, ℕ, Some, ◌*◌, ◌<◌, ◌≤◌, ◌&&◌, MatchBool, cond, nat_lt};
+ghost use Rattle.lattice.specs.Kinds.{pair as pair_order, pair_span, pair_at_most, code as code_of_lem, parts_of, PartsAreLevels, KeepsLevels, IsPartByPart, levels};
 ghost use Rattle.lattice.specs.PairLaws.{pair_laws};
 
 use crate::lattice::Lattice;
 
 // Two lattices side by side. A code is first × (span of the second) + second.
-#[derive(Drop)]
+#[derive(Clone, Debug, PartialEq, Eq, Drop)]
 pub struct Pair<A, B> {
     first: A,
     second: B,
@@ -36,10 +36,43 @@ impl<A: Lattice, B: Lattice> Pair<A, B> {
 
     // The level of two parts.
     fn compose(&self, first: u16, second: u16) -> u16
-        requires { (first < (A.Lattice.order self.now.first).span) × ((second < (B.Lattice.order self.now.second).span) × ((A.Lattice.order self.now.first).span * (B.Lattice.order self.now.second).span ≤ 65536)) }
+        requires { PartsAreLevels (A.Lattice.order self.now.first) (B.Lattice.order self.now.second) (Some (first, second)) }
         ensures { result ≡ code_of_lem (B.Lattice.order self.now.second) first second }
     {
         (u32::from(first) * self.second.span() + u32::from(second)) as u16
+    }
+
+    // The level of two parts' answers, where both codes are levels; else 0.
+    fn part_by_part<F: FnOnce(u16, u16) -> u16, G: FnOnce(u16, u16) -> u16>(
+        &self,
+        a: u16,
+        b: u16,
+        first: F,
+        second: G,
+    ) -> u16
+        requires first_callable { F.IsAlwaysCallable first }
+        requires second_callable { G.IsAlwaysCallable second }
+        requires first_level { KeepsLevels (A.Lattice.order self.now.first) (F.post first) }
+        requires second_level { KeepsLevels (B.Lattice.order self.now.second) (G.post second) }
+        ensures { MatchBool (levels (pair_span (A.Lattice.order self.now.first) (B.Lattice.order self.now.second)) a b) (IsPartByPart (B.Lattice.order self.now.second) (F.post first) (G.post second) a b result) (result ≡ 0) }
+    {
+        let Some(((a1, a2), (b1, b2))) = self.parts(a).zip(self.parts(b)) else {
+            return 0;
+        };
+        self.compose(first(a1, b1), second(a2, b2))
+    }
+
+    // The level of two parts that are ends; 0 where there are no levels.
+    fn end(&self, first: u16, second: u16) -> u16
+        requires first_level { 0 < (A.Lattice.order self.now.first).span → first < (A.Lattice.order self.now.first).span }
+        requires second_level { 0 < (B.Lattice.order self.now.second).span → second < (B.Lattice.order self.now.second).span }
+        ensures { result ≡ cond (nat_lt 0 (pair_span (A.Lattice.order self.now.first) (B.Lattice.order self.now.second))) (code_of_lem (B.Lattice.order self.now.second) first second) 0 }
+    {
+        if self.span() == 0 {
+            0
+        } else {
+            self.compose(first, second)
+        }
     }
 }
 
@@ -49,49 +82,42 @@ impl<A: Lattice, B: Lattice> Lattice for Pair<A, B> {
     ghost lawful = { λ s. pair_laws _ _ (A.Lattice.lawful s.first) (B.Lattice.lawful s.second) };
 
     fn span(&self) -> u32 {
-        let span = u64::from(self.first.span()) * u64::from(self.second.span());
-        if span > 65536 { 0 } else { span as u32 }
+        self.first
+            .span()
+            .checked_mul(self.second.span())
+            .filter(|span| *span <= 65536)
+            .unwrap_or(0)
     }
 
     fn at_most(&self, a: u16, b: u16) -> bool {
-        match (self.parts(a), self.parts(b)) {
-            (Some((a1, a2)), Some((b1, b2))) => self.first.at_most(a1, b1)
-                && self.second.at_most(a2, b2),
-            _ => false,
-        }
+        self.parts(a).zip(self.parts(b)).is_some_and(|((a1, a2), (b1, b2))| {
+            self.first.at_most(a1, b1) && self.second.at_most(a2, b2)
+        })
     }
 
     fn join(&self, a: u16, b: u16) -> u16 {
-        match (self.parts(a), self.parts(b)) {
-            (Some((a1, a2)), Some((b1, b2))) => self.compose(
-                self.first.join(a1, b1),
-                self.second.join(a2, b2),
-            ),
-            _ => 0,
-        }
+        self.part_by_part(
+            a,
+            b,
+            |a1, b1| self.first.join(a1, b1),
+            |a2, b2| self.second.join(a2, b2),
+        )
     }
 
     fn meet(&self, a: u16, b: u16) -> u16 {
-        match (self.parts(a), self.parts(b)) {
-            (Some((a1, a2)), Some((b1, b2))) => self.compose(
-                self.first.meet(a1, b1),
-                self.second.meet(a2, b2),
-            ),
-            _ => 0,
-        }
+        self.part_by_part(
+            a,
+            b,
+            |a1, b1| self.first.meet(a1, b1),
+            |a2, b2| self.second.meet(a2, b2),
+        )
     }
 
     fn lowest(&self) -> u16 {
-        if self.span() == 0 {
-            return 0;
-        }
-        self.compose(self.first.lowest(), self.second.lowest())
+        self.end(self.first.lowest(), self.second.lowest())
     }
 
     fn highest(&self) -> u16 {
-        if self.span() == 0 {
-            return 0;
-        }
-        self.compose(self.first.highest(), self.second.highest())
+        self.end(self.first.highest(), self.second.highest())
     }
 }
