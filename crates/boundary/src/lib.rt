@@ -36,7 +36,7 @@ pub extern "C" fn nextabur_mount(job: &[u8]) -> u32
     match judge(job) {
         Ok(_) => 0,
         Err(fault) => {
-            let (number, label) = fault.answer();
+            let (number, label) = <(u8, u16)>::from(fault);
             u32::from(number) * 0x1_0000 + u32::from(label)
         }
     }

@@ -27,7 +27,7 @@ mod tests {
         levels[0] = 0;
         match mount(&Ladder::new(16), &levels, bytes) {
             Ok(_) => (0, 0),
-            Err(fault) => fault.answer(),
+            Err(fault) => fault.into(),
         }
     }
 
