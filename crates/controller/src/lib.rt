@@ -10,6 +10,7 @@ mod ready;
 mod refusal;
 mod running;
 mod setup;
+mod variable;
 
 pub use answer::{Answer, Sheet};
 pub use call::Call;

@@ -7,10 +7,10 @@ ghost use Rattle.controller.specs.Of.{setup_state, ready_state, running_state};
 
 use super::Ready;
 use super::sheet::LINE;
-use crate::VARIABLES;
 use crate::refusal::Refusal;
 use crate::running::Running;
 use crate::setup::Setup;
+use crate::variable::index_of;
 use checker::{MountFault, check};
 use lattice::Lattice;
 use push::Run;
@@ -21,13 +21,8 @@ impl<L: Lattice> Ready<L> {
         ensures outcome { (mount_answer result, ready_state self.new) ≡ mount_outcome (L.Lattice.order self.old.lattice) (ready_state self.old) bytes.now }
         ensures same_lattice { self.new.lattice ≡ self.old.lattice }
     {
-        match check(&self.lattice, &self.levels, bytes) {
-            Ok(program) => {
-                self.program = program;
-                Ok(())
-            }
-            Err(fault) => Err(fault),
-        }
+        self.program = check(&self.lattice, &self.levels, bytes)?;
+        Ok(())
     }
 
     // Writes a value.
@@ -35,10 +30,7 @@ impl<L: Lattice> Ready<L> {
         ensures outcome { (done_answer result, ready_state self.new) ≡ set_outcome (ready_state self.old) variable value }
         ensures same_lattice { self.new.lattice ≡ self.old.lattice }
     {
-        let index = usize::from(variable);
-        if index >= VARIABLES {
-            return Err(Refusal::NoVariable);
-        }
+        let index = index_of(variable)?;
         self.values[index] = value;
         Ok(())
     }
@@ -47,10 +39,7 @@ impl<L: Lattice> Ready<L> {
     pub fn read(&self, variable: u8) -> Result<i32, Refusal>
         ensures { read_answer result ≡ read_outcome (ready_state self.now) variable }
     {
-        let index = usize::from(variable);
-        if index >= VARIABLES {
-            return Err(Refusal::NoVariable);
-        }
+        let index = index_of(variable)?;
         Ok(self.values[index])
     }
 

@@ -7,6 +7,7 @@ use super::Setup;
 use crate::VARIABLES;
 use crate::ready::Ready;
 use crate::refusal::Refusal;
+use crate::variable::index_of;
 use lattice::Lattice;
 use push::Program;
 
@@ -25,10 +26,7 @@ impl<L: Lattice> Setup<L> {
         ensures outcome { (done_answer result, setup_state self.new) ≡ grade_outcome (L.Lattice.order self.old.lattice) (setup_state self.old) variable level }
         ensures same_lattice { self.new.lattice ≡ self.old.lattice }
     {
-        let index = usize::from(variable);
-        if index >= VARIABLES {
-            return Err(Refusal::NoVariable);
-        }
+        let index = index_of(variable)?;
         if !self.lattice.is_level(level) {
             return Err(Refusal::NoLevel);
         }
