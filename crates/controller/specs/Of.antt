@@ -1,5 +1,5 @@
 -- The plain terms of a controller, of calls and of answers. Assumes nothing.
-use Rattle.std.specs.Prelude.{◌≡◌, [], Some, None, Ok, Err, vec_items, Option, Result}
+use Rattle.std.specs.Prelude.{◌≡◌, ℕ, ◌/◌, [], length, Some, None, Ok, Err, vec_items, Option, Result}
 use Rattle.push.specs.Code.{code}
 use Rattle.push.specs.Of.{run_state}
 use Rattle.controller.specs.State.{SetupState, ReadyState, RunningState}
@@ -39,8 +39,12 @@ call_of (Advance budget) = plain.advance budget
 call_of End = plain.end
 call_of Unseal = plain.unseal
 
+-- A sheet has five bytes for each variable that it holds.
+abbrev pub sheet_count : Sheet → ℕ
+sheet_count sheet = length (vec_items sheet.bytes) / 5
+
 abbrev pub sheet_answer : Result Sheet Refusal → plain.Answer
-sheet_answer (Ok sheet) = plain.shown (0, sheet.count) (vec_items sheet.bytes)
+sheet_answer (Ok sheet) = plain.shown (0, sheet_count sheet) (vec_items sheet.bytes)
 sheet_answer (Err e) = plain.shown (refusal_number e, 0) []
 
 abbrev pub answer_of : Answer → plain.Answer

@@ -1,4 +1,4 @@
-ghost use Rattle.std.specs.Prelude.{◌≡◌, length as size, replicate, IfOk};
+ghost use Rattle.std.specs.Prelude.{◌≡◌, replicate, IfOk};
 ghost use Rattle.controller.specs.Sheet.{show_outcome};
 ghost use Rattle.controller.specs.Lists.{sheet_shown, setup_call, ready_call, running_call, outcome};
 ghost use Rattle.controller.specs.Of.{setup_state, ready_state, running_state, call_of, sheet_answer, state_of, lattice_of, outcome_of, KeepsLattice};
@@ -58,36 +58,24 @@ fn call_while_running<L: Lattice + Drop>(
     }
 }
 
-// Shows an observer's sheet by way of a buffer.
-fn show_into<L: Lattice>(
-    heap: Global,
-    ready: &Ready<L>,
-    observer: u16,
-    buffer: &mut [u8],
-) -> Result<Result<Sheet, Refusal>, AllocError>
-    ensures { IfOk result (λ a. sheet_answer a ≡ sheet_shown (show_outcome (L.Lattice.order ready.now.lattice) (ready_state ready.now) observer buffer.old)) }
-{
-    match ready.show(observer, buffer) {
-        Ok(count) => {
-            let bytes = Vec::from_slice(heap, &buffer[..LINE * count])?;
-            Ok(Ok(Sheet { count, bytes }))
-        }
-        Err(refusal) => Ok(Err(refusal)),
-    }
-}
-
 // Shows an observer's sheet as into a buffer of so many bytes, by way of one that any sheet fits.
 fn show_within<L: Lattice>(
     heap: Global,
     ready: &Ready<L>,
     observer: u16,
     length: usize,
-    buffer: &mut [u8],
 ) -> Result<Result<Sheet, Refusal>, AllocError>
-    requires { size buffer.old ≡ 160 }
     ensures { IfOk result (λ a. sheet_answer a ≡ sheet_shown (show_outcome (L.Lattice.order ready.now.lattice) (ready_state ready.now) observer (replicate length 0))) }
 {
-    show_into(heap, ready, observer, &mut buffer[..length.min(SHEET)])
+    let mut room = [0; SHEET];
+    let buffer = &mut room[..length.min(SHEET)];
+    match ready.show(observer, buffer) {
+        Ok(count) => {
+            let bytes = Vec::from_slice(heap, &buffer[..LINE * count])?;
+            Ok(Ok(Sheet { bytes }))
+        }
+        Err(refusal) => Ok(Err(refusal)),
+    }
 }
 
 // Performs a call when ready; none where that does not allow it.
@@ -113,8 +101,7 @@ fn call_when_ready<L: Lattice + Drop>(
             Ok(Some((Phase::Ready(ready), Answer::WasRead(answer))))
         }
         Call::Show { observer, length } => {
-            let mut buffer = [0; SHEET];
-            let answer = show_within(heap, &ready, observer, length, &mut buffer)?;
+            let answer = show_within(heap, &ready, observer, length)?;
             Ok(Some((Phase::Ready(ready), Answer::Shown(answer))))
         }
         Call::Start => Ok(Some((Phase::Running(ready.start()), Answer::Started))),
