@@ -4,6 +4,7 @@
 mod answer;
 mod call;
 mod ending;
+mod grades;
 mod list;
 mod phase;
 mod ready;

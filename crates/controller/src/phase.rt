@@ -22,8 +22,8 @@ pub enum Phase<L> {
 
 // Performs a call in setup; none where setup does not allow it.
 fn call_in_setup<L: Lattice + Drop>(mut setup: Setup<L>, call: Call) -> Option<(Phase<L>, Answer)>
-    ensures outcome { outcome_of result ≡ setup_call (L.Lattice.order setup.lattice) (setup_state setup) (call_of call.entry) }
-    ensures same_lattice { KeepsLattice setup.lattice result }
+    ensures outcome { outcome_of result ≡ setup_call (L.Lattice.order setup.grades.lattice) (setup_state setup) (call_of call.entry) }
+    ensures same_lattice { KeepsLattice setup.grades.lattice result }
 {
     match call {
         Call::Grade { variable, level } => {
@@ -42,7 +42,7 @@ fn call_while_running<L: Lattice + Drop>(
     call: Call,
 ) -> Option<(Phase<L>, Answer)>
     ensures outcome { outcome_of result ≡ running_call (running_state running) (call_of call.entry) }
-    ensures same_lattice { KeepsLattice running.lattice result }
+    ensures same_lattice { KeepsLattice running.grades.lattice result }
 {
     match call {
         Call::Advance(budget) => {
@@ -65,7 +65,7 @@ fn show_within<L: Lattice>(
     observer: u16,
     length: usize,
 ) -> Result<Result<Sheet, Refusal>, AllocError>
-    ensures { IfOk result (λ a. sheet_answer a ≡ sheet_shown (show_outcome (L.Lattice.order ready.now.lattice) (ready_state ready.now) observer (replicate length 0))) }
+    ensures { IfOk result (λ a. sheet_answer a ≡ sheet_shown (show_outcome (L.Lattice.order ready.now.grades.lattice) (ready_state ready.now) observer (replicate length 0))) }
 {
     let mut room = [0; SHEET];
     let buffer = &mut room[..length.min(SHEET)];
@@ -84,8 +84,8 @@ fn call_when_ready<L: Lattice + Drop>(
     mut ready: Ready<L>,
     call: Call,
 ) -> Result<Option<(Phase<L>, Answer)>, AllocError>
-    ensures outcome { IfOk result (λ step. outcome_of step ≡ ready_call (L.Lattice.order ready.lattice) (ready_state ready) (call_of call.entry)) }
-    ensures same_lattice { IfOk result (KeepsLattice ready.lattice) }
+    ensures outcome { IfOk result (λ step. outcome_of step ≡ ready_call (L.Lattice.order ready.grades.lattice) (ready_state ready) (call_of call.entry)) }
+    ensures same_lattice { IfOk result (KeepsLattice ready.grades.lattice) }
 {
     match call {
         Call::Mount(job) => {

@@ -18,17 +18,18 @@ use push::Run;
 impl<L: Lattice> Ready<L> {
     // Takes a job: an accepted one replaces the mounted program.
     pub fn mount(&mut self, bytes: &[u8]) -> Result<(), MountFault>
-        ensures outcome { (mount_answer result, ready_state self.new) ≡ mount_outcome (L.Lattice.order self.old.lattice) (ready_state self.old) bytes.now }
-        ensures same_lattice { self.new.lattice ≡ self.old.lattice }
+        ensures outcome { (mount_answer result, ready_state self.new) ≡ mount_outcome (L.Lattice.order self.old.grades.lattice) (ready_state self.old) bytes.now }
+        ensures same_lattice { self.new.grades.lattice ≡ self.old.grades.lattice }
     {
-        self.program = check(&self.lattice, &self.levels, bytes)?;
+        let grades = &self.grades;
+        self.program = check(&grades.lattice, &grades.levels, bytes)?;
         Ok(())
     }
 
     // Writes a value.
     pub fn set(&mut self, variable: u8, value: i32) -> Result<(), Refusal>
         ensures outcome { (done_answer result, ready_state self.new) ≡ set_outcome (ready_state self.old) variable value }
-        ensures same_lattice { self.new.lattice ≡ self.old.lattice }
+        ensures same_lattice { self.new.grades.lattice ≡ self.old.grades.lattice }
     {
         let index = index_of(variable)?;
         self.values[index] = value;
@@ -45,9 +46,9 @@ impl<L: Lattice> Ready<L> {
 
     // Writes an observer's sheet to the front of the buffer, and answers how many variables it holds.
     pub fn show(&self, observer: u16, buffer: &mut [u8]) -> Result<usize, Refusal>
-        ensures outcome { (shown_answer result, buffer.new) ≡ show_outcome (L.Lattice.order self.now.lattice) (ready_state self.now) observer buffer.old }
+        ensures outcome { (shown_answer result, buffer.new) ≡ show_outcome (L.Lattice.order self.now.grades.lattice) (ready_state self.now) observer buffer.old }
     {
-        if !self.lattice.is_level(observer) {
+        if !self.grades.lattice.is_level(observer) {
             return Err(Refusal::NoLevel);
         }
         let count = self.count_open(observer);
@@ -61,30 +62,24 @@ impl<L: Lattice> Ready<L> {
     // Gives up the values and the program and keeps the levels, so that variables can be graded again.
     pub fn unseal(self) -> Setup<L>
         ensures state { setup_state result ≡ unsealed_state (ready_state self) }
-        ensures same_lattice { result.lattice ≡ self.lattice }
+        ensures same_lattice { result.grades.lattice ≡ self.grades.lattice }
     {
-        let Ready {
-            lattice,
-            levels,
-            ..
-        } = self;
-        Setup { lattice, levels }
+        let Ready { grades, .. } = self;
+        Setup { grades }
     }
 
     // Remembers the values, and begins a run at label 0 with an empty stack.
     pub fn start(self) -> Running<L>
         ensures state { running_state result ≡ started_state (ready_state self) }
-        ensures same_lattice { result.lattice ≡ self.lattice }
+        ensures same_lattice { result.grades.lattice ≡ self.grades.lattice }
     {
         let Ready {
-            lattice,
-            levels,
+            grades,
             values,
             program,
         } = self;
         Running {
-            lattice,
-            levels,
+            grades,
             remembered: values,
             run: Run::begin(program, values),
         }

@@ -1,5 +1,5 @@
-ghost use Rattle.std.specs.Prelude.{◌≡◌, ◌*◌, ◌<◌, ◌≤◌, ◌++◌, length, drop};
-ghost use Rattle.controller.specs.Sheet.{is_open, line as line_of, open_count, sheet as sheet_of};
+ghost use Rattle.std.specs.Prelude.{◌≡◌, ◌*◌, ◌≤◌, ◌++◌, length, drop};
+ghost use Rattle.controller.specs.Sheet.{line as line_of, open_count, sheet as sheet_of};
 ghost use Rattle.controller.specs.Of.{ready_state};
 
 use super::Ready;
@@ -22,21 +22,14 @@ fn write_line(line: &mut [u8], variable: u8, value: i32)
 }
 
 impl<L: Lattice> Ready<L> {
-    fn is_open(&self, variable: usize, observer: u16) -> bool
-        requires { variable < 32 }
-        ensures { result ≡ is_open (L.Lattice.order self.now.lattice) (ready_state self.now) observer variable }
-    {
-        self.lattice.at_most(self.levels[variable], observer)
-    }
-
     // How many variables are open to an observer.
     pub(crate) fn count_open(&self, observer: u16) -> usize
-        ensures value { result ≡ open_count (L.Lattice.order self.now.lattice) (ready_state self.now) observer }
+        ensures value { result ≡ open_count (L.Lattice.order self.now.grades.lattice) (ready_state self.now) observer }
         ensures bound { result ≤ 32 }
     {
         let mut count = 0;
         for variable in 0..VARIABLES {
-            if self.is_open(variable, observer) {
+            if self.grades.is_open(variable, observer) {
                 count += 1;
             }
         }
@@ -45,12 +38,12 @@ impl<L: Lattice> Ready<L> {
 
     // Writes the lines of the open variables, in rising order, to the front of the buffer.
     pub(crate) fn write_open(&self, observer: u16, buffer: &mut [u8])
-        requires { 5 * open_count (L.Lattice.order self.now.lattice) (ready_state self.now) observer ≤ length buffer.old }
-        ensures { buffer.new ≡ sheet_of (L.Lattice.order self.now.lattice) (ready_state self.now) observer ++ drop (5 * open_count (L.Lattice.order self.now.lattice) (ready_state self.now) observer) buffer.old }
+        requires { 5 * open_count (L.Lattice.order self.now.grades.lattice) (ready_state self.now) observer ≤ length buffer.old }
+        ensures { buffer.new ≡ sheet_of (L.Lattice.order self.now.grades.lattice) (ready_state self.now) observer ++ drop (5 * open_count (L.Lattice.order self.now.grades.lattice) (ready_state self.now) observer) buffer.old }
     {
         let mut at = 0;
         for variable in 0..VARIABLES {
-            if self.is_open(variable, observer) {
+            if self.grades.is_open(variable, observer) {
                 write_line(
                     &mut buffer[at..at + LINE],
                     variable as u8,

@@ -6,5 +6,5 @@ use Rattle.controller.proofs.phase.show_within.Goals as goal
 
 pub returns-in-Err : goal.returns-in-Err
 returns-in-Err g c =
-    let few = open_at_most (g.L.Lattice.order c.args.ready.now.lattice) (ready_state c.args.ready.now) c.args.observer 32 in
+    let few = open_at_most (g.L.Lattice.order c.args.ready.now.grades.lattice) (ready_state c.args.ready.now) c.args.observer 32 in
     grind (arith, common_steps)

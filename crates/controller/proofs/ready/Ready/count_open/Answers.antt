@@ -8,5 +8,5 @@ loop-variable-init g c = (omega arith, sym (open_none _ _ _))
 
 pub loop-variable-preserved : goal.loop-variable-preserved
 loop-variable-preserved g c =
-    let more = open_more (g.L.Lattice.order c.args.self.now.lattice) (ready_state c.args.self.now) c.args.observer c.loop-variable.variable in
+    let more = open_more (g.L.Lattice.order c.args.self.now.grades.lattice) (ready_state c.args.self.now) c.args.observer c.loop-variable.variable in
     grind arith
