@@ -2,7 +2,9 @@
 use Rattle.std.proofs.Common.{◌≡◌, ℕ, zero, suc, ◌+◌, ◌-◌, ◌*◌, ◌<◌, ◌≤◌, true, false, cond, List, [], ◌++◌, length, get_or, take, drop, pos, sym, refl, ap, ◌∙◌, append_assoc, append-nil, add-zero, add-one, arith, length-append}
 use native.Mathlib.Decide.{le_ind}
 use borrow.Rule.Slice.PartMut.{put_mid}
-use Rattle.std.proofs.lemmas.List.{take_at, drop_at, drop-drop}
+use Rattle.std.proofs.lemmas.List.{take_all, take_at, drop_at, drop-drop}
+use Rattle.std.proofs.lemmas.List.Sums.{sum_by_more}
+use Rattle.std.specs.List.{count_by}
 use Rattle.lattice.specs.Order.{Order}
 use Rattle.controller.specs.State.{ReadyState}
 use Rattle.controller.specs.Sheet.{is_open, line, open_below, lines_below}
@@ -15,6 +17,15 @@ module _ (o : Order) (s : ReadyState) (observer : ℕ) where
   pub open_more : (n : ℕ) → open_below o s observer (n + 1) ≡ open_below o s observer n + cond (is_open o s observer n) 1 0
   unfolding open_below
   open_more n = ap (open_below o s observer) (add-one n)
+
+  -- the open variables are those whose level is at most the observer's
+  open_levels : (n : ℕ) → n ≤ length s.levels → open_below o s observer n ≡ count_by (λ level. o.at_most level observer) (take n s.levels)
+  unfolding open_below
+  open_levels zero h = refl
+  open_levels (suc n) h = grind (arith, open_levels n (omega arith), sum_by_more (λ level. cond (o.at_most level observer) 1 0) s.levels n 0 (omega arith))
+
+  pub open_counted : length s.levels ≡ 32 → count_by (λ level. o.at_most level observer) s.levels ≡ open_below o s observer 32
+  open_counted h = sym (open_levels 32 (omega arith) ∙ ap (count_by (λ level. o.at_most level observer)) (take_all 32 s.levels (omega arith)))
 
   pub lines_none : lines_below o s observer 0 ≡ []
   unfolding lines_below

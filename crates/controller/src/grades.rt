@@ -1,4 +1,4 @@
-ghost use Rattle.std.specs.Prelude.{◌≡◌, ◌<◌, length, slice_index};
+ghost use Rattle.std.specs.Prelude.{◌≡◌, ◌<◌, count_by, length, slice_index};
 
 use crate::VARIABLES;
 use lattice::Lattice;
@@ -18,5 +18,14 @@ impl<L: Lattice> Grades<L> {
         ensures { result ≡ (L.Lattice.order self.now.lattice).at_most (slice_index self.now.levels variable) observer }
     {
         self.lattice.at_most(self.levels[variable], observer)
+    }
+    // How many variables are open to an observer.
+    pub(crate) fn count_open(&self, observer: u16) -> usize
+        ensures { result ≡ count_by (λ level. (L.Lattice.order self.now.lattice).at_most level observer) self.now.levels }
+    {
+        self.levels
+            .iter()
+            .filter(|level| self.lattice.at_most(**level, observer))
+            .count()
     }
 }

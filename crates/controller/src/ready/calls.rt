@@ -45,13 +45,14 @@ impl<L: Lattice> Ready<L> {
     }
 
     // Writes an observer's sheet to the front of the buffer, and answers how many variables it holds.
+    #[tactic(auto, using(crate::proofs::SheetFacts::open_counted))]
     pub fn show(&self, observer: u16, buffer: &mut [u8]) -> Result<usize, Refusal>
         ensures outcome { (shown_answer result, buffer.new) ≡ show_outcome (L.Lattice.order self.now.grades.lattice) (ready_state self.now) observer buffer.old }
     {
         if !self.grades.lattice.is_level(observer) {
             return Err(Refusal::NoLevel);
         }
-        let count = self.count_open(observer);
+        let count = self.grades.count_open(observer);
         if buffer.len() < LINE * count {
             return Err(Refusal::ShortBuffer);
         }
@@ -73,15 +74,10 @@ impl<L: Lattice> Ready<L> {
         ensures state { running_state result ≡ started_state (ready_state self) }
         ensures same_lattice { result.grades.lattice ≡ self.grades.lattice }
     {
-        let Ready {
-            grades,
-            values,
-            program,
-        } = self;
         Running {
-            grades,
-            remembered: values,
-            run: Run::begin(program, values),
+            grades: self.grades,
+            remembered: self.values,
+            run: Run::begin(self.program, self.values),
         }
     }
 }

@@ -3,7 +3,6 @@ ghost use Rattle.controller.specs.Sheet.{line as line_of, open_count, sheet as s
 ghost use Rattle.controller.specs.Of.{ready_state};
 
 use super::Ready;
-use crate::VARIABLES;
 use lattice::Lattice;
 
 // The bytes of one variable on a sheet.
@@ -22,33 +21,17 @@ fn write_line(line: &mut [u8], variable: u8, value: i32)
 }
 
 impl<L: Lattice> Ready<L> {
-    // How many variables are open to an observer.
-    pub(crate) fn count_open(&self, observer: u16) -> usize
-        ensures value { result ≡ open_count (L.Lattice.order self.now.grades.lattice) (ready_state self.now) observer }
-        ensures bound { result ≤ 32 }
-    {
-        let mut count = 0;
-        for variable in 0..VARIABLES {
-            if self.grades.is_open(variable, observer) {
-                count += 1;
-            }
-        }
-        count
-    }
-
     // Writes the lines of the open variables, in rising order, to the front of the buffer.
+    #[tactic(auto, using(crate::proofs::SheetFacts::room))]
     pub(crate) fn write_open(&self, observer: u16, buffer: &mut [u8])
         requires { 5 * open_count (L.Lattice.order self.now.grades.lattice) (ready_state self.now) observer ≤ length buffer.old }
         ensures { buffer.new ≡ sheet_of (L.Lattice.order self.now.grades.lattice) (ready_state self.now) observer ++ drop (5 * open_count (L.Lattice.order self.now.grades.lattice) (ready_state self.now) observer) buffer.old }
     {
+        // Kept: rattle writes no proof of a `for` over the open variables by `filter`, nor of one over `chunks_exact_mut`.
         let mut at = 0;
-        for variable in 0..VARIABLES {
+        for (variable, value) in self.values.iter().enumerate() {
             if self.grades.is_open(variable, observer) {
-                write_line(
-                    &mut buffer[at..at + LINE],
-                    variable as u8,
-                    self.values[variable],
-                );
+                write_line(&mut buffer[at..at + LINE], variable as u8, *value);
                 at += LINE;
             }
         }

@@ -23,18 +23,13 @@ impl<L: Lattice> Running<L> {
         ensures outcome { (ending_number result.1, ready_state result.0) ≡ end_outcome (running_state self) }
         ensures same_lattice { result.0.grades.lattice ≡ self.grades.lattice }
     {
-        let Running {
-            grades,
-            remembered,
-            run,
-        } = self;
-        let (status, program, reached) = run.finish();
+        let (status, program, reached) = self.run.finish();
         let (values, ending) = match status {
             Status::Halted => (reached, Ending::Halted),
-            Status::Going | Status::Faulted => (remembered, Ending::Unfinished),
+            Status::Going | Status::Faulted => (self.remembered, Ending::Unfinished),
         };
         let ready = Ready {
-            grades,
+            grades: self.grades,
             values,
             program,
         };

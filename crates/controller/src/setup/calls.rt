@@ -42,9 +42,8 @@ impl<L: Lattice> Setup<L> {
         ensures state { ready_state result ≡ sealed_state (setup_state self) }
         ensures same_lattice { result.grades.lattice ≡ self.grades.lattice }
     {
-        let Setup { grades } = self;
         Ready {
-            grades,
+            grades: self.grades,
             values: [0; VARIABLES],
             program: Program::empty(),
         }
