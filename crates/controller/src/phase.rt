@@ -20,8 +20,11 @@ pub enum Phase<L> {
     Running(Running<L>),
 }
 
+// The state after a call, and its answer; none where the state does not allow the call.
+type Step<L> = Option<(Phase<L>, Answer)>;
+
 // Performs a call in setup; none where setup does not allow it.
-fn call_in_setup<L: Lattice + Drop>(mut setup: Setup<L>, call: Call) -> Option<(Phase<L>, Answer)>
+fn call_in_setup<L: Lattice + Drop>(mut setup: Setup<L>, call: Call) -> Step<L>
     ensures outcome { outcome_of result ≡ setup_call (L.Lattice.order setup.grades.lattice) (setup_state setup) (call_of call.entry) }
     ensures same_lattice { KeepsLattice setup.grades.lattice result }
 {
@@ -37,10 +40,7 @@ fn call_in_setup<L: Lattice + Drop>(mut setup: Setup<L>, call: Call) -> Option<(
 }
 
 // Performs a call while a run is open; none where that does not allow it.
-fn call_while_running<L: Lattice + Drop>(
-    mut running: Running<L>,
-    call: Call,
-) -> Option<(Phase<L>, Answer)>
+fn call_while_running<L: Lattice + Drop>(mut running: Running<L>, call: Call) -> Step<L>
     ensures outcome { outcome_of result ≡ running_call (running_state running) (call_of call.entry) }
     ensures same_lattice { KeepsLattice running.grades.lattice result }
 {
@@ -83,40 +83,37 @@ fn call_when_ready<L: Lattice + Drop>(
     heap: Global,
     mut ready: Ready<L>,
     call: Call,
-) -> Result<Option<(Phase<L>, Answer)>, AllocError>
+) -> Result<Step<L>, AllocError>
     ensures outcome { IfOk result (λ step. outcome_of step ≡ ready_call (L.Lattice.order ready.grades.lattice) (ready_state ready) (call_of call.entry)) }
     ensures same_lattice { IfOk result (KeepsLattice ready.grades.lattice) }
 {
-    match call {
+    let step = match call {
         Call::Mount(job) => {
             let answer = ready.mount(job);
-            Ok(Some((Phase::Ready(ready), Answer::Mounted(answer))))
+            (Phase::Ready(ready), Answer::Mounted(answer))
         }
         Call::Set { variable, value } => {
             let answer = ready.set(variable, value);
-            Ok(Some((Phase::Ready(ready), Answer::WasSet(answer))))
+            (Phase::Ready(ready), Answer::WasSet(answer))
         }
         Call::Read(variable) => {
             let answer = ready.read(variable);
-            Ok(Some((Phase::Ready(ready), Answer::WasRead(answer))))
+            (Phase::Ready(ready), Answer::WasRead(answer))
         }
         Call::Show { observer, length } => {
             let answer = show_within(heap, &ready, observer, length)?;
-            Ok(Some((Phase::Ready(ready), Answer::Shown(answer))))
+            (Phase::Ready(ready), Answer::Shown(answer))
         }
-        Call::Start => Ok(Some((Phase::Running(ready.start()), Answer::Started))),
-        Call::Unseal => Ok(Some((Phase::Setup(ready.unseal()), Answer::Unsealed))),
-        Call::Grade { .. } | Call::Seal | Call::Advance(_) | Call::End => Ok(None),
-    }
+        Call::Start => (Phase::Running(ready.start()), Answer::Started),
+        Call::Unseal => (Phase::Setup(ready.unseal()), Answer::Unsealed),
+        Call::Grade { .. } | Call::Seal | Call::Advance(_) | Call::End => return Ok(None),
+    };
+    Ok(Some(step))
 }
 
 impl<L: Lattice + Drop> Phase<L> {
     // Performs a call; none where the state does not allow it.
-    pub(crate) fn call(
-        self,
-        heap: Global,
-        call: Call,
-    ) -> Result<Option<(Phase<L>, Answer)>, AllocError>
+    pub(crate) fn call(self, heap: Global, call: Call) -> Result<Step<L>, AllocError>
         ensures outcome { IfOk result (λ step. outcome_of step ≡ outcome (L.Lattice.order (lattice_of self)) (state_of self) (call_of call.entry)) }
         ensures same_lattice { IfOk result (KeepsLattice (lattice_of self)) }
     {

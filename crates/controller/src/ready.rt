@@ -16,5 +16,5 @@ pub struct Ready<L> {
     pub(crate) grades: Grades<L>,
     pub(crate) values: [i32; VARIABLES],
     pub(crate) program: Program,
-    ghost sized: { length values ≡ 32 },
+    ghost values_sized: { length values ≡ 32 },
 }

@@ -12,5 +12,5 @@ pub struct Running<L> {
     pub(crate) grades: Grades<L>,
     pub(crate) remembered: [i32; VARIABLES],
     pub(crate) run: Run,
-    ghost sized: { length remembered ≡ 32 },
+    ghost remembered_sized: { length remembered ≡ 32 },
 }

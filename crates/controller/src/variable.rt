@@ -4,7 +4,7 @@ ghost use Rattle.controller.specs.declared.refusal.Refusal.TheVariants.{NoVariab
 use crate::VARIABLES;
 use crate::refusal::Refusal;
 
-// The index of a variable of that number.
+// The index of the variable of a number, where there is one.
 pub(crate) fn index_of(variable: u8) -> Result<usize, Refusal>
     ensures { MatchResult result (λ index. (variable < 32) × (index ≡ variable)) (λ refusal. (32 ≤ variable) × (refusal ≡ NoVariable)) }
 {

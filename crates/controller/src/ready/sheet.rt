@@ -3,13 +3,14 @@ ghost use Rattle.controller.specs.Sheet.{line as line_of, open_count, sheet as s
 ghost use Rattle.controller.specs.Of.{ready_state};
 
 use super::Ready;
+use crate::VARIABLES;
 use lattice::Lattice;
 
 // The bytes of one variable on a sheet.
 pub(crate) const LINE: usize = 5;
 
 // The bytes of a sheet that holds every variable.
-pub const SHEET: usize = 160;
+pub const SHEET: usize = LINE * VARIABLES;
 
 // Writes a variable's number and value.
 fn write_line(line: &mut [u8], variable: u8, value: i32)
@@ -27,7 +28,7 @@ impl<L: Lattice> Ready<L> {
         requires { 5 * open_count (L.Lattice.order self.now.grades.lattice) (ready_state self.now) observer ≤ length buffer.old }
         ensures { buffer.new ≡ sheet_of (L.Lattice.order self.now.grades.lattice) (ready_state self.now) observer ++ drop (5 * open_count (L.Lattice.order self.now.grades.lattice) (ready_state self.now) observer) buffer.old }
     {
-        // Kept: rattle writes no proof of a `for` over the open variables by `filter`, nor of one over `chunks_exact_mut`.
+        // Tried: a loop over the open variables by `filter`, alone or beside `chunks_exact_mut`. It gets no proof.
         let mut at = 0;
         for (variable, value) in self.values.iter().enumerate() {
             if self.grades.is_open(variable, observer) {
