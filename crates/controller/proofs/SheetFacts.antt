@@ -1,14 +1,13 @@
 -- How the count and the lines of the open variables grow with each variable. Assumes nothing.
-use Rattle.std.proofs.Common.{◌≡◌, ℕ, zero, suc, ◌+◌, ◌-◌, ◌*◌, ◌<◌, ◌≤◌, min, Bool, true, false, cond, ltb, List, [], ◌++◌, length, get_or, take, drop, replicate, pos, sym, refl, ap, ◌∙◌, append_assoc, append-nil, add-zero, add-one, arith, length-append}
+use Rattle.std.proofs.Common.{◌≡◌, ℕ, zero, suc, ◌+◌, ◌-◌, ◌*◌, ◌<◌, ◌≤◌, true, false, cond, List, [], ◌++◌, length, get_or, take, drop, pos, sym, refl, ap, ◌∙◌, append_assoc, append-nil, add-zero, add-one, arith, length-append}
 use native.Mathlib.Decide.{le_ind}
 use borrow.Rule.Slice.PartMut.{put_mid}
-use lib.ListN.{length-replicate}
-use Rattle.std.proofs.lemmas.List.{take_at, drop_at, drop-drop}
-use Rattle.std.proofs.lemmas.Bool.{true≢false, false≢true, ltb-true, ltb-false}
+use Rattle.std.proofs.lemmas.List.{take_all, take_at, drop_at, drop-drop}
+use Rattle.std.proofs.lemmas.List.Sums.{sum_by_more}
+use Rattle.std.specs.List.{count_by}
 use Rattle.lattice.specs.Order.{Order}
 use Rattle.controller.specs.State.{ReadyState}
-use Rattle.controller.specs.Sheet.{is_open, line, open_below, lines_below, open_count, sheet, show_outcome}
-use Rattle.controller.specs.Lists.{shown, sheet_shown}
+use Rattle.controller.specs.Sheet.{is_open, line, open_below, lines_below}
 
 module _ (o : Order) (s : ReadyState) (observer : ℕ) where
   pub open_none : open_below o s observer 0 ≡ 0
@@ -18,6 +17,15 @@ module _ (o : Order) (s : ReadyState) (observer : ℕ) where
   pub open_more : (n : ℕ) → open_below o s observer (n + 1) ≡ open_below o s observer n + cond (is_open o s observer n) 1 0
   unfolding open_below
   open_more n = ap (open_below o s observer) (add-one n)
+
+  -- the open variables are those whose level is at most the observer's
+  open_levels : (n : ℕ) → n ≤ length s.levels → open_below o s observer n ≡ count_by (λ level. o.at_most level observer) (take n s.levels)
+  unfolding open_below
+  open_levels zero h = refl
+  open_levels (suc n) h = grind (arith, open_levels n (omega arith), sum_by_more (λ level. cond (o.at_most level observer) 1 0) s.levels n 0 (omega arith))
+
+  pub open_counted : length s.levels ≡ 32 → count_by (λ level. o.at_most level observer) s.levels ≡ open_below o s observer 32
+  open_counted h = sym (open_levels 32 (omega arith) ∙ ap (count_by (λ level. o.at_most level observer)) (take_all 32 s.levels (omega arith)))
 
   pub lines_none : lines_below o s observer 0 ≡ []
   unfolding lines_below
@@ -86,33 +94,3 @@ module _ (o : Order) (s : ReadyState) (observer n at : ℕ) (old buffer : List �
         ∙ ap (λ y. (lines_below o s observer n ++ y) ++ drop (at + 5) old) e
         ∙ ap (λ front. front ++ drop (at + 5) old) (sym (open_adds_line o s observer n h)),
   )
-
--- What a show answers and the sheet that it leaves depend on the length of its buffer alone, and not on more than 160.
-module _ (o : Order) (s : ReadyState) (w : ℕ) where
-  front_is_sheet : (b : List ℕ) → take (5 * open_count o s w) (sheet o s w ++ drop (5 * open_count o s w) b) ≡ sheet o s w
-  front_is_sheet b = take_at (sheet o s w) (drop (5 * open_count o s w) b) (5 * open_count o s w) (length_lines o s w 32)
-
-  same_shown : (b c : List ℕ) → ltb (length b) (5 * open_count o s w) ≡ ltb (length c) (5 * open_count o s w) → sheet_shown (show_outcome o s w b) ≡ sheet_shown (show_outcome o s w c)
-  same_shown b c e = by (ltb w o.span) (ltb (length b) (5 * open_count o s w)) (ltb (length c) (5 * open_count o s w)) e
-    where
-      out : Bool → Bool → List ℕ → (ℕ × ℕ) × List ℕ
-      out level short b = cond level (cond short ((3, 0), b) ((0, open_count o s w), sheet o s w ++ drop (5 * open_count o s w) b)) ((2, 0), b)
-
-      by : (level short short' : Bool) → short ≡ short' → sheet_shown (out level short b) ≡ sheet_shown (out level short' c)
-      by false short short' e = refl
-      by true true true e = refl
-      by true false false e = ap (shown (0, open_count o s w)) (front_is_sheet b ∙ sym (front_is_sheet c))
-      by true true false e = absurd (true≢false e)
-      by true false true e = absurd (false≢true e)
-
-  pub shown_by_length : (b : List ℕ) (n : ℕ) → length b ≡ min n 160 → sheet_shown (show_outcome o s w b) ≡ sheet_shown (show_outcome o s w (replicate n 0))
-  shown_by_length b n long = same_shown b zeros (short (ltb (length b) (5 * open_count o s w)) (ltb (length zeros) (5 * open_count o s w)) refl refl)
-    where
-      zeros : List ℕ
-      zeros = replicate n 0
-
-      short : (x y : Bool) → ltb (length b) (5 * open_count o s w) ≡ x → ltb (length zeros) (5 * open_count o s w) ≡ y → x ≡ y
-      short true true p q = refl
-      short false false p q = refl
-      short true false p q = let all : length zeros ≡ n = length-replicate n 0 in absurd (omega (arith, ltb-true _ _ p, ltb-false _ _ q, long, open_at_most o s w 32))
-      short false true p q = let all : length zeros ≡ n = length-replicate n 0 in absurd (omega (arith, ltb-false _ _ p, ltb-true _ _ q, long, open_at_most o s w 32))

@@ -1,5 +1,5 @@
 -- The plain terms of a controller, of calls and of answers. Assumes nothing.
-use Rattle.std.specs.Prelude.{◌≡◌, [], Some, None, Ok, Err, vec_items, Option, Result}
+use Rattle.std.specs.Prelude.{◌≡◌, ℕ, ◌/◌, [], length, Some, None, Ok, Err, vec_items, Option, Result}
 use Rattle.push.specs.Code.{code}
 use Rattle.push.specs.Of.{run_state}
 use Rattle.controller.specs.State.{SetupState, ReadyState, RunningState}
@@ -19,13 +19,13 @@ use Rattle.controller.specs.declared.ready.Ready.{Ready}
 use Rattle.controller.specs.declared.running.Running.{Running}
 
 abbrev pub setup_state : {L : Type 0} → Setup L → SetupState
-setup_state s = record { levels = s.levels }
+setup_state s = record { levels = s.grades.levels }
 
 abbrev pub ready_state : {L : Type 0} → Ready L → ReadyState
-ready_state s = record { levels = s.levels; values = s.values; program = code s.program }
+ready_state s = record { levels = s.grades.levels; values = s.values; program = code s.program }
 
 abbrev pub running_state : {L : Type 0} → Running L → RunningState
-running_state s = record { levels = s.levels; remembered = s.remembered; program = code s.run.program; run = run_state s.run }
+running_state s = record { levels = s.grades.levels; remembered = s.remembered; program = code s.run.program; run = run_state s.run }
 
 abbrev pub call_of : Call → plain.Call
 call_of (Grade variable level) = plain.grade variable level
@@ -39,8 +39,12 @@ call_of (Advance budget) = plain.advance budget
 call_of End = plain.end
 call_of Unseal = plain.unseal
 
+-- A sheet has five bytes for each variable that it holds.
+abbrev pub sheet_count : Sheet → ℕ
+sheet_count sheet = length (vec_items sheet.bytes) / 5
+
 abbrev pub sheet_answer : Result Sheet Refusal → plain.Answer
-sheet_answer (Ok sheet) = plain.shown (0, sheet.count) (vec_items sheet.bytes)
+sheet_answer (Ok sheet) = plain.shown (0, sheet_count sheet) (vec_items sheet.bytes)
 sheet_answer (Err e) = plain.shown (refusal_number e, 0) []
 
 abbrev pub answer_of : Answer → plain.Answer
@@ -62,9 +66,9 @@ state_of (phase.Ready s) = plain.is_ready (ready_state s)
 state_of (phase.Running s) = plain.is_running (running_state s)
 
 abbrev pub lattice_of : {L : Type 0} → Phase L → L
-lattice_of (phase.Setup s) = s.lattice
-lattice_of (phase.Ready s) = s.lattice
-lattice_of (phase.Running s) = s.lattice
+lattice_of (phase.Setup s) = s.grades.lattice
+lattice_of (phase.Ready s) = s.grades.lattice
+lattice_of (phase.Running s) = s.grades.lattice
 
 -- What a call in some state came to.
 abbrev pub outcome_of : {L : Type 0} → Option (Phase L × Answer) → plain.Outcome

@@ -1,5 +1,5 @@
 // A call on a controller, with its arguments.
-#[derive(Clone, Copy)]
+#[derive(Clone, Copy, Debug, PartialEq, Eq)]
 pub enum Call<'a> {
     Grade { variable: u8, level: u16 },
     Seal,

@@ -10,12 +10,12 @@ pub enum Ending {
     Halted,
 }
 
-impl Ending {
-    // The number that an end answers.
-    pub fn number(self) -> u8
-        ensures { result ≡ ending_number self }
-    {
-        match self {
+// The number that an end answers.
+impl From<Ending> for u8 {
+    ghost from_gives = { λ ending number. number ≡ ending_number ending };
+
+    fn from(ending: Ending) -> u8 {
+        match ending {
             Ending::Unfinished => 0,
             Ending::Halted => 1,
         }

@@ -4,12 +4,14 @@
 mod answer;
 mod call;
 mod ending;
+mod grades;
 mod list;
 mod phase;
 mod ready;
 mod refusal;
 mod running;
 mod setup;
+mod variable;
 
 pub use answer::{Answer, Sheet};
 pub use call::Call;

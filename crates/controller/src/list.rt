@@ -20,17 +20,13 @@ fn perform<L: Lattice + Drop>(
 {
     let mut phase = Phase::Setup(Setup::new(lattice));
     let mut answers = Vec::new(heap);
-    for place in 0..calls.len() {
-        match phase.call(heap, calls[place])? {
-            Some((next, answer)) => {
-                phase = next;
-                answers.push(answer)?;
-            }
-            None => {
-                answers.push(Answer::NotAllowed(place))?;
-                return Ok(answers);
-            }
-        }
+    for (place, call) in calls.iter().enumerate() {
+        let Some((next, answer)) = phase.call(heap, *call)? else {
+            answers.push(Answer::NotAllowed(place))?;
+            return Ok(answers);
+        };
+        phase = next;
+        answers.push(answer)?;
     }
     Ok(answers)
 }

@@ -1,4 +1,4 @@
-ghost use Rattle.std.specs.Prelude.{◌≡◌, length as size, replicate, IfOk};
+ghost use Rattle.std.specs.Prelude.{◌≡◌, replicate, IfOk};
 ghost use Rattle.controller.specs.Sheet.{show_outcome};
 ghost use Rattle.controller.specs.Lists.{sheet_shown, setup_call, ready_call, running_call, outcome};
 ghost use Rattle.controller.specs.Of.{setup_state, ready_state, running_state, call_of, sheet_answer, state_of, lattice_of, outcome_of, KeepsLattice};
@@ -20,10 +20,13 @@ pub enum Phase<L> {
     Running(Running<L>),
 }
 
+// The state after a call, and its answer; none where the state does not allow the call.
+type Step<L> = Option<(Phase<L>, Answer)>;
+
 // Performs a call in setup; none where setup does not allow it.
-fn call_in_setup<L: Lattice + Drop>(mut setup: Setup<L>, call: Call) -> Option<(Phase<L>, Answer)>
-    ensures outcome { outcome_of result ≡ setup_call (L.Lattice.order setup.lattice) (setup_state setup) (call_of call.entry) }
-    ensures same_lattice { KeepsLattice setup.lattice result }
+fn call_in_setup<L: Lattice + Drop>(mut setup: Setup<L>, call: Call) -> Step<L>
+    ensures outcome { outcome_of result ≡ setup_call (L.Lattice.order setup.grades.lattice) (setup_state setup) (call_of call.entry) }
+    ensures same_lattice { KeepsLattice setup.grades.lattice result }
 {
     match call {
         Call::Grade { variable, level } => {
@@ -37,12 +40,9 @@ fn call_in_setup<L: Lattice + Drop>(mut setup: Setup<L>, call: Call) -> Option<(
 }
 
 // Performs a call while a run is open; none where that does not allow it.
-fn call_while_running<L: Lattice + Drop>(
-    mut running: Running<L>,
-    call: Call,
-) -> Option<(Phase<L>, Answer)>
+fn call_while_running<L: Lattice + Drop>(mut running: Running<L>, call: Call) -> Step<L>
     ensures outcome { outcome_of result ≡ running_call (running_state running) (call_of call.entry) }
-    ensures same_lattice { KeepsLattice running.lattice result }
+    ensures same_lattice { KeepsLattice running.grades.lattice result }
 {
     match call {
         Call::Advance(budget) => {
@@ -58,36 +58,24 @@ fn call_while_running<L: Lattice + Drop>(
     }
 }
 
-// Shows an observer's sheet by way of a buffer.
-fn show_into<L: Lattice>(
-    heap: Global,
-    ready: &Ready<L>,
-    observer: u16,
-    buffer: &mut [u8],
-) -> Result<Result<Sheet, Refusal>, AllocError>
-    ensures { IfOk result (λ a. sheet_answer a ≡ sheet_shown (show_outcome (L.Lattice.order ready.now.lattice) (ready_state ready.now) observer buffer.old)) }
-{
-    match ready.show(observer, buffer) {
-        Ok(count) => {
-            let bytes = Vec::from_slice(heap, &buffer[..LINE * count])?;
-            Ok(Ok(Sheet { count, bytes }))
-        }
-        Err(refusal) => Ok(Err(refusal)),
-    }
-}
-
 // Shows an observer's sheet as into a buffer of so many bytes, by way of one that any sheet fits.
 fn show_within<L: Lattice>(
     heap: Global,
     ready: &Ready<L>,
     observer: u16,
     length: usize,
-    buffer: &mut [u8],
 ) -> Result<Result<Sheet, Refusal>, AllocError>
-    requires { size buffer.old ≡ 160 }
-    ensures { IfOk result (λ a. sheet_answer a ≡ sheet_shown (show_outcome (L.Lattice.order ready.now.lattice) (ready_state ready.now) observer (replicate length 0))) }
+    ensures { IfOk result (λ a. sheet_answer a ≡ sheet_shown (show_outcome (L.Lattice.order ready.now.grades.lattice) (ready_state ready.now) observer (replicate length 0))) }
 {
-    show_into(heap, ready, observer, &mut buffer[..length.min(SHEET)])
+    let mut room = [0; SHEET];
+    let buffer = &mut room[..length.min(SHEET)];
+    match ready.show(observer, buffer) {
+        Ok(count) => {
+            let bytes = Vec::from_slice(heap, &buffer[..LINE * count])?;
+            Ok(Ok(Sheet { bytes }))
+        }
+        Err(refusal) => Ok(Err(refusal)),
+    }
 }
 
 // Performs a call when ready; none where that does not allow it.
@@ -95,41 +83,37 @@ fn call_when_ready<L: Lattice + Drop>(
     heap: Global,
     mut ready: Ready<L>,
     call: Call,
-) -> Result<Option<(Phase<L>, Answer)>, AllocError>
-    ensures outcome { IfOk result (λ step. outcome_of step ≡ ready_call (L.Lattice.order ready.lattice) (ready_state ready) (call_of call.entry)) }
-    ensures same_lattice { IfOk result (KeepsLattice ready.lattice) }
+) -> Result<Step<L>, AllocError>
+    ensures outcome { IfOk result (λ step. outcome_of step ≡ ready_call (L.Lattice.order ready.grades.lattice) (ready_state ready) (call_of call.entry)) }
+    ensures same_lattice { IfOk result (KeepsLattice ready.grades.lattice) }
 {
-    match call {
+    let step = match call {
         Call::Mount(job) => {
             let answer = ready.mount(job);
-            Ok(Some((Phase::Ready(ready), Answer::Mounted(answer))))
+            (Phase::Ready(ready), Answer::Mounted(answer))
         }
         Call::Set { variable, value } => {
             let answer = ready.set(variable, value);
-            Ok(Some((Phase::Ready(ready), Answer::WasSet(answer))))
+            (Phase::Ready(ready), Answer::WasSet(answer))
         }
         Call::Read(variable) => {
             let answer = ready.read(variable);
-            Ok(Some((Phase::Ready(ready), Answer::WasRead(answer))))
+            (Phase::Ready(ready), Answer::WasRead(answer))
         }
         Call::Show { observer, length } => {
-            let mut buffer = [0; SHEET];
-            let answer = show_within(heap, &ready, observer, length, &mut buffer)?;
-            Ok(Some((Phase::Ready(ready), Answer::Shown(answer))))
+            let answer = show_within(heap, &ready, observer, length)?;
+            (Phase::Ready(ready), Answer::Shown(answer))
         }
-        Call::Start => Ok(Some((Phase::Running(ready.start()), Answer::Started))),
-        Call::Unseal => Ok(Some((Phase::Setup(ready.unseal()), Answer::Unsealed))),
-        Call::Grade { .. } | Call::Seal | Call::Advance(_) | Call::End => Ok(None),
-    }
+        Call::Start => (Phase::Running(ready.start()), Answer::Started),
+        Call::Unseal => (Phase::Setup(ready.unseal()), Answer::Unsealed),
+        Call::Grade { .. } | Call::Seal | Call::Advance(_) | Call::End => return Ok(None),
+    };
+    Ok(Some(step))
 }
 
 impl<L: Lattice + Drop> Phase<L> {
     // Performs a call; none where the state does not allow it.
-    pub(crate) fn call(
-        self,
-        heap: Global,
-        call: Call,
-    ) -> Result<Option<(Phase<L>, Answer)>, AllocError>
+    pub(crate) fn call(self, heap: Global, call: Call) -> Result<Step<L>, AllocError>
         ensures outcome { IfOk result (λ step. outcome_of step ≡ outcome (L.Lattice.order (lattice_of self)) (state_of self) (call_of call.entry)) }
         ensures same_lattice { IfOk result (KeepsLattice (lattice_of self)) }
     {

@@ -1,6 +1,7 @@
 ghost use Rattle.std.specs.Prelude.{◌≡◌, length};
 
 use crate::VARIABLES;
+use crate::grades::Grades;
 use push::Program;
 
 mod calls;
@@ -12,10 +13,8 @@ pub use sheet::SHEET;
 // A sealed controller: its levels stay; jobs can be mounted and started, values written, read and shown.
 #[derive(Drop)]
 pub struct Ready<L> {
-    pub(crate) lattice: L,
-    pub(crate) levels: [u16; VARIABLES],
+    pub(crate) grades: Grades<L>,
     pub(crate) values: [i32; VARIABLES],
     pub(crate) program: Program,
-    ghost levels_sized: { length levels ≡ 32 },
     ghost values_sized: { length values ≡ 32 },
 }

@@ -7,10 +7,10 @@ ghost use Rattle.controller.specs.Of.{setup_state, ready_state, running_state};
 
 use super::Ready;
 use super::sheet::LINE;
-use crate::VARIABLES;
 use crate::refusal::Refusal;
 use crate::running::Running;
 use crate::setup::Setup;
+use crate::variable::index_of;
 use checker::{MountFault, check};
 use lattice::Lattice;
 use push::Run;
@@ -18,27 +18,20 @@ use push::Run;
 impl<L: Lattice> Ready<L> {
     // Takes a job: an accepted one replaces the mounted program.
     pub fn mount(&mut self, bytes: &[u8]) -> Result<(), MountFault>
-        ensures outcome { (mount_answer result, ready_state self.new) ≡ mount_outcome (L.Lattice.order self.old.lattice) (ready_state self.old) bytes.now }
-        ensures same_lattice { self.new.lattice ≡ self.old.lattice }
+        ensures outcome { (mount_answer result, ready_state self.new) ≡ mount_outcome (L.Lattice.order self.old.grades.lattice) (ready_state self.old) bytes.now }
+        ensures same_lattice { self.new.grades.lattice ≡ self.old.grades.lattice }
     {
-        match check(&self.lattice, &self.levels, bytes) {
-            Ok(program) => {
-                self.program = program;
-                Ok(())
-            }
-            Err(fault) => Err(fault),
-        }
+        let grades = &self.grades;
+        self.program = check(&grades.lattice, &grades.levels, bytes)?;
+        Ok(())
     }
 
     // Writes a value.
     pub fn set(&mut self, variable: u8, value: i32) -> Result<(), Refusal>
         ensures outcome { (done_answer result, ready_state self.new) ≡ set_outcome (ready_state self.old) variable value }
-        ensures same_lattice { self.new.lattice ≡ self.old.lattice }
+        ensures same_lattice { self.new.grades.lattice ≡ self.old.grades.lattice }
     {
-        let index = usize::from(variable);
-        if index >= VARIABLES {
-            return Err(Refusal::NoVariable);
-        }
+        let index = index_of(variable)?;
         self.values[index] = value;
         Ok(())
     }
@@ -47,21 +40,19 @@ impl<L: Lattice> Ready<L> {
     pub fn read(&self, variable: u8) -> Result<i32, Refusal>
         ensures { read_answer result ≡ read_outcome (ready_state self.now) variable }
     {
-        let index = usize::from(variable);
-        if index >= VARIABLES {
-            return Err(Refusal::NoVariable);
-        }
+        let index = index_of(variable)?;
         Ok(self.values[index])
     }
 
     // Writes an observer's sheet to the front of the buffer, and answers how many variables it holds.
+    #[tactic(auto, using(crate::proofs::SheetFacts::open_counted))]
     pub fn show(&self, observer: u16, buffer: &mut [u8]) -> Result<usize, Refusal>
-        ensures outcome { (shown_answer result, buffer.new) ≡ show_outcome (L.Lattice.order self.now.lattice) (ready_state self.now) observer buffer.old }
+        ensures outcome { (shown_answer result, buffer.new) ≡ show_outcome (L.Lattice.order self.now.grades.lattice) (ready_state self.now) observer buffer.old }
     {
-        if !self.lattice.is_level(observer) {
+        if !self.grades.lattice.is_level(observer) {
             return Err(Refusal::NoLevel);
         }
-        let count = self.count_open(observer);
+        let count = self.grades.count_open(observer);
         if buffer.len() < LINE * count {
             return Err(Refusal::ShortBuffer);
         }
@@ -72,32 +63,21 @@ impl<L: Lattice> Ready<L> {
     // Gives up the values and the program and keeps the levels, so that variables can be graded again.
     pub fn unseal(self) -> Setup<L>
         ensures state { setup_state result ≡ unsealed_state (ready_state self) }
-        ensures same_lattice { result.lattice ≡ self.lattice }
+        ensures same_lattice { result.grades.lattice ≡ self.grades.lattice }
     {
-        let Ready {
-            lattice,
-            levels,
-            ..
-        } = self;
-        Setup { lattice, levels }
+        let Ready { grades, .. } = self;
+        Setup { grades }
     }
 
     // Remembers the values, and begins a run at label 0 with an empty stack.
     pub fn start(self) -> Running<L>
         ensures state { running_state result ≡ started_state (ready_state self) }
-        ensures same_lattice { result.lattice ≡ self.lattice }
+        ensures same_lattice { result.grades.lattice ≡ self.grades.lattice }
     {
-        let Ready {
-            lattice,
-            levels,
-            values,
-            program,
-        } = self;
         Running {
-            lattice,
-            levels,
-            remembered: values,
-            run: Run::begin(program, values),
+            grades: self.grades,
+            remembered: self.values,
+            run: Run::begin(self.program, self.values),
         }
     }
 }

@@ -1,5 +1,5 @@
-ghost use Rattle.std.specs.Prelude.{◌≡◌, ◌*◌, ◌<◌, ◌≤◌, ◌++◌, length, drop};
-ghost use Rattle.controller.specs.Sheet.{is_open, line as line_of, open_count, sheet as sheet_of};
+ghost use Rattle.std.specs.Prelude.{◌≡◌, ◌*◌, ◌≤◌, ◌++◌, length, drop};
+ghost use Rattle.controller.specs.Sheet.{line as line_of, open_count, sheet as sheet_of};
 ghost use Rattle.controller.specs.Of.{ready_state};
 
 use super::Ready;
@@ -10,7 +10,7 @@ use lattice::Lattice;
 pub(crate) const LINE: usize = 5;
 
 // The bytes of a sheet that holds every variable.
-pub const SHEET: usize = 160;
+pub const SHEET: usize = LINE * VARIABLES;
 
 // Writes a variable's number and value.
 fn write_line(line: &mut [u8], variable: u8, value: i32)
@@ -22,40 +22,17 @@ fn write_line(line: &mut [u8], variable: u8, value: i32)
 }
 
 impl<L: Lattice> Ready<L> {
-    fn is_open(&self, variable: usize, observer: u16) -> bool
-        requires { variable < 32 }
-        ensures { result ≡ is_open (L.Lattice.order self.now.lattice) (ready_state self.now) observer variable }
-    {
-        self.lattice.at_most(self.levels[variable], observer)
-    }
-
-    // How many variables are open to an observer.
-    pub(crate) fn count_open(&self, observer: u16) -> usize
-        ensures value { result ≡ open_count (L.Lattice.order self.now.lattice) (ready_state self.now) observer }
-        ensures bound { result ≤ 32 }
-    {
-        let mut count = 0;
-        for variable in 0..VARIABLES {
-            if self.is_open(variable, observer) {
-                count += 1;
-            }
-        }
-        count
-    }
-
     // Writes the lines of the open variables, in rising order, to the front of the buffer.
+    #[tactic(auto, using(crate::proofs::SheetFacts::room))]
     pub(crate) fn write_open(&self, observer: u16, buffer: &mut [u8])
-        requires { 5 * open_count (L.Lattice.order self.now.lattice) (ready_state self.now) observer ≤ length buffer.old }
-        ensures { buffer.new ≡ sheet_of (L.Lattice.order self.now.lattice) (ready_state self.now) observer ++ drop (5 * open_count (L.Lattice.order self.now.lattice) (ready_state self.now) observer) buffer.old }
+        requires { 5 * open_count (L.Lattice.order self.now.grades.lattice) (ready_state self.now) observer ≤ length buffer.old }
+        ensures { buffer.new ≡ sheet_of (L.Lattice.order self.now.grades.lattice) (ready_state self.now) observer ++ drop (5 * open_count (L.Lattice.order self.now.grades.lattice) (ready_state self.now) observer) buffer.old }
     {
+        // Tried: a loop over the open variables by `filter`, alone or beside `chunks_exact_mut`. It gets no proof.
         let mut at = 0;
-        for variable in 0..VARIABLES {
-            if self.is_open(variable, observer) {
-                write_line(
-                    &mut buffer[at..at + LINE],
-                    variable as u8,
-                    self.values[variable],
-                );
+        for (variable, value) in self.values.iter().enumerate() {
+            if self.grades.is_open(variable, observer) {
+                write_line(&mut buffer[at..at + LINE], variable as u8, *value);
                 at += LINE;
             }
         }

@@ -1,13 +1,10 @@
-use Rattle.std.proofs.Common.{map, IfOk, Ok, Err, Result, ap, ◌∙◌}
+use Rattle.std.proofs.Common.{map, ap, ◌∙◌}
+use Rattle.std.proofs.lemmas.Result.{IfOk-weaker}
 use Rattle.controller.specs.Counts.{stack_faults}
 use Rattle.controller.specs.Of.{call_of}
 use Rattle.controller.proofs.Kept.{no_stack_faults}
 use Rattle.controller.proofs.Pairs.{closed_values_stay_closed}
 use Rattle.controller.proofs.list.transcript.Goals as goal
-
-made_then : {X Y : Type 0} (r : Result X Y) {P Q : X → Type 0} → ((x : X) → P x → Q x) → IfOk r P → IfOk r Q
-made_then (Ok x) f h = f x h
-made_then (Err y) f h = tt
 
 pub returns : goal.returns
 returns g c =
@@ -16,6 +13,6 @@ returns g c =
     let calls = map call_of c.args.calls.now in
     record {
       transcript = c.perform.ensures;
-      no_stack_faults = made_then c.perform.result (λ answers e. ap stack_faults e ∙ no_stack_faults order laws calls) c.perform.ensures;
+      no_stack_faults = IfOk-weaker c.perform.result _ _ (λ answers e. ap stack_faults e ∙ no_stack_faults order laws calls) c.perform.ensures;
       closed_values_stay_closed = closed_values_stay_closed order laws calls;
     }

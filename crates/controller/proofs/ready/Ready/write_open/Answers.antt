@@ -1,33 +1,18 @@
 use Rattle.std.proofs.Common.{◌++◌, get_or, pos, sym, ap, arith, to_z-of_z, w32, SFits, rules}
 use Rattle.controller.specs.Of.{ready_state}
-use Rattle.controller.proofs.SheetFacts.{open_none, lines_none, room, open_turn, closed_turn}
+use Rattle.controller.proofs.SheetFacts.{open_none, lines_none, open_turn, closed_turn}
 use Rattle.controller.proofs.ready.Ready.write_open.Goals as goal
 use Rattle.controller.proofs.ready.Ready.write_open.Goals.{then-is_open, else-is_open}
 
 pub loop-variable-init : goal.loop-variable-init
 loop-variable-init g c =
-    let o = g.L.Lattice.order c.args.self.now.lattice in
+    let o = g.L.Lattice.order c.args.self.now.grades.lattice in
     let s = ready_state c.args.self.now in
     (omega (arith, open_none o s c.args.observer), ap (λ front. front ++ c.args.buffer.now) (sym (lines_none o s c.args.observer)))
 
-pub overflow_add-at : goal.overflow_add-at
-overflow_add-at g c =
-    let fits = room (g.L.Lattice.order c.args.self.now.lattice) (ready_state c.args.self.now) c.args.observer c.loop-variable.variable c.loop-variable-test.true (sym c.if-is_open.ensures) in
-    omega arith
-
-pub slice_bounds-write_line-end : goal.slice_bounds-write_line-end
-slice_bounds-write_line-end g c =
-    let fits = room (g.L.Lattice.order c.args.self.now.lattice) (ready_state c.args.self.now) c.args.observer c.loop-variable.variable c.loop-variable-test.true (sym c.if-is_open.ensures) in
-    search rules
-
-pub overflow_add-at-then-is_open : goal.overflow_add-at-then-is_open
-overflow_add-at-then-is_open g c =
-    let fits = room (g.L.Lattice.order c.args.self.now.lattice) (ready_state c.args.self.now) c.args.observer c.loop-variable.variable c.loop-variable-test.true (sym c.if-is_open.ensures) in
-    omega arith
-
 pub loop-variable-preserved : goal.loop-variable-preserved
 loop-variable-preserved g c =
-    let o = g.L.Lattice.order c.args.self.now.lattice in
+    let o = g.L.Lattice.order c.args.self.now.grades.lattice in
     let s = ready_state c.args.self.now in
     let n = c.loop-variable.variable in
     let at = c.loop-variable.at in

@@ -5,6 +5,6 @@ use Rattle.controller.proofs.ready.Ready.write_open.Given as goal
 
 abbrev pub invariant-loop-variable : goal.invariant-loop-variable
 invariant-loop-variable g l =
-    let o = g.L.Lattice.order l.self.lattice in
+    let o = g.L.Lattice.order l.self.grades.lattice in
     let s = ready_state l.self in
     (l.at ≡ 5 * open_below o s l.observer l.variable) × (l.buffer ≡ lines_below o s l.observer l.variable ++ drop l.at l.initial.buffer)

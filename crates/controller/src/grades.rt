@@ -1,0 +1,31 @@
+ghost use Rattle.std.specs.Prelude.{◌≡◌, ◌<◌, count_by, length, slice_index};
+
+use crate::VARIABLES;
+use lattice::Lattice;
+
+// A lattice, and the level of each variable.
+#[derive(Drop)]
+pub struct Grades<L> {
+    pub(crate) lattice: L,
+    pub(crate) levels: [u16; VARIABLES],
+    ghost sized: { length levels ≡ 32 },
+}
+
+impl<L: Lattice> Grades<L> {
+    // Whether a variable is open to an observer.
+    pub(crate) fn is_open(&self, variable: usize, observer: u16) -> bool
+        requires { variable < 32 }
+        ensures { result ≡ (L.Lattice.order self.now.lattice).at_most (slice_index self.now.levels variable) observer }
+    {
+        self.lattice.at_most(self.levels[variable], observer)
+    }
+    // How many variables are open to an observer.
+    pub(crate) fn count_open(&self, observer: u16) -> usize
+        ensures { result ≡ count_by (λ level. (L.Lattice.order self.now.lattice).at_most level observer) self.now.levels }
+    {
+        self.levels
+            .iter()
+            .filter(|level| self.lattice.at_most(**level, observer))
+            .count()
+    }
+}
