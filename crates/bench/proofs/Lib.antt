@@ -1,3 +1,1 @@
 pub mod Fields
-pub mod Rows
-pub mod Shown

@@ -1,45 +1,13 @@
--- Where the fields of an input stand. Assumes nothing.
-use Rattle.std.specs.Prelude.{ℕ, ◌+◌, ◌*◌, Bool, cond, ◌&&◌, List, map, length, drop, ℤ, Some, None, Option, ◌==◌, nat_le, nat_lt, slice_index}
-use Rattle.std.specs.Int.{w32, cast_signed}
-use Rattle.std.specs.List.{range_with_len}
+-- What is done with an input before its job is mounted, and after. Assumes nothing.
+use Rattle.std.specs.Prelude.{ℕ, Bool, List, nat_lt}
 use Rattle.lattice.specs.Order.{Order}
-use Rattle.lattice.specs.Kinds.{ladder, owners, flip, pair}
 use Rattle.job.specs.Records.{all_below}
 use Rattle.controller.specs.State.{ReadyState, sealed_state}
-
-abbrev pub fits : List ℕ → Bool
-fits bytes = nat_le 199 (length bytes) && nat_le (length bytes) 4555
-
--- The lattice that a kind byte names.
-abbrev pub kind : ℕ → Option Order
-kind byte =
-    cond (byte == 0) (Some (ladder 16))
-    (cond (byte == 1) (Some (owners 4)) (cond (byte == 2) (Some (pair (ladder 4) (flip (ladder 4)))) None))
-
--- A variable's level: two bytes, lower byte first.
-abbrev pub level : List ℕ → ℕ → ℕ
-level bytes variable = slice_index bytes (1 + 2 * variable) + slice_index bytes (2 + 2 * variable) * 256
-
--- A variable's value: four bytes, lower byte first, signed.
-abbrev pub value : List ℕ → ℕ → ℤ
-value bytes variable =
-    cast_signed w32
-    (slice_index bytes (65 + 4 * variable) + slice_index bytes (66 + 4 * variable) * 256 + slice_index bytes (67 + 4 * variable) * 65536
-    + slice_index bytes (68 + 4 * variable) * 16777216)
-
-abbrev pub observer : List ℕ → ℕ
-observer bytes = slice_index bytes 193 + slice_index bytes 194 * 256
+use Rattle.report.specs.Input.{level, value, each}
 
 -- Whether every level is a level of the lattice.
 abbrev pub all_levels : Order → List ℕ → Bool
 all_levels o bytes = all_below (λ variable. nat_lt (level bytes variable) o.span) 32
-
-abbrev pub job : List ℕ → List ℕ
-job bytes = drop 199 bytes
-
--- What f says of each variable, in rising order.
-unfoldable pub each : {X : Type 0} → (ℕ → X) → List X
-each f = map f (range_with_len 0 32)
 
 -- The graded and sealed controller, and then the one with a job mounted and every value set.
 abbrev pub sealed : List ℕ → ReadyState

@@ -1,11 +1,10 @@
 // The bench: standard input to a report of what an observer may see.
 #![tactic(auto)]
 
-mod input;
-mod report;
+mod mounted;
 
-use input::Input;
-use report::report;
+use mounted::report;
+use report::Input;
 use std::io::Read;
 
 fn main(rt: HostRuntime) -> anyhow::Result<()> {

@@ -1,35 +1,24 @@
--- The calls for an input, variable by variable. Assumes nothing.
-use Rattle.std.proofs.Common.{◌≡◌, ℕ, ◌+◌, List, [], ◌∷◌, ◌++◌, map, sym, ap, ◌∙◌, append_assoc, append-nil, arith, Bor}
-use mathlib.Core.List.{map-append}
-use Rattle.std.specs.List.{range_with_len}
-use Rattle.std.proofs.lemmas.List.FromFn.{map-range_with_len_more}
-use Rattle.controller.specs.declared.call.Call as code
-use Rattle.controller.specs.declared.call.Call.TheVariants as variant
-use Rattle.controller.specs.Lists.{Call, grade, seal, mount, set, start, advance, end, show}
-use Rattle.controller.specs.Of.{call_of}
+-- The calls for an input, as a chain of iterators gives them. Assumes nothing.
+use Rattle.std.proofs.Common.{◌≡◌, ℕ, List, [], ◌∷◌, ◌++◌, map, append_assoc, Option, Result, Ok, Err, IfOk, vec_items, Vec, ap, ◌∙◌, subst}
+use lib.ListN.{length-map}
+use Rattle.std.specs.Array.Iter.{array_into_iter_items, array_steps}
+use Rattle.std.specs.declared.array.IntoIter.{IntoIter}
+use Rattle.std.proofs.lemmas.Iterator.{YieldsList, IsCollectResult, items_from_drains}
+use Rattle.std.proofs.lemmas.Iterator.Consumers.{YieldsList-from_shown}
+use Rattle.controller.specs.Lists.{grade, seal, mount, set, start, advance, end, show}
 use Rattle.report.specs.Input.{each, level, value, calls, budget as budget_of, observer as observer_of, job as job_of}
 
-module _ (f : ℕ → Call) (before : List Call) where
-  pub none_yet : before ≡ before ++ map f (range_with_len 0 0)
-  none_yet = sym (append-nil before)
+pub from_array : {A B : Type 0} (v : A → B) {n : ℕ} (s : IntoIter A n) (xs : List A) → array_into_iter_items s ≡ xs → YieldsList (array_steps {A = A} {n = n}) v s (map v xs)
+from_array {A} v {n} s xs e =
+    subst (λ ys. YieldsList (array_steps {A = A} {n = n}) v s (map v ys)) e
+    (YieldsList-from_shown (array_steps {A = A} {n = n}) v (λ t. map v (array_into_iter_items t)) (λ t u h. length-map (array_into_iter_items t) v ∙ h.0) (λ t x u h. ap (map v) h) s)
 
-  -- one call more
-  pub one_more : (items more : List code.Call) (n : ℕ) (c : code.Call) → map call_of items ≡ before ++ map f (range_with_len 0 n) → more ≡ items ++ (c ∷ []) → call_of c ≡ f n → map call_of more ≡ before ++ map f (range_with_len 0 (n + 1))
-  one_more items more n c so_far pushed is =
-      ap (map call_of) pushed ∙ map-append call_of items (c ∷ []) ∙ ap (λ xs. xs ++ (call_of c ∷ [])) so_far ∙ append_assoc before (map f (range_with_len 0 n)) (call_of c ∷ [])
-      ∙ ap (λ xs. before ++ xs) (ap (λ x. map f (range_with_len 0 n) ++ (x ∷ [])) is ∙ sym (map-range_with_len_more f 0 n n (omega arith)))
+pub from_collect : {S A B Z E : Type 0} {steps : S → Option A → S → Type 0} {v : A → B} {s : S} {all : List B} (r : Result (Vec A Z) E) (wanted : List B) → IsCollectResult steps s r → all ≡ wanted → YieldsList steps v s all → IfOk r (λ w. map v (vec_items w) ≡ wanted)
+from_collect {v = v} (Ok w) wanted (xs, drained, items) same yields = ap (map v) items.0 ∙ items_from_drains xs drained yields ∙ same
+from_collect (Err e) wanted ran same yields = tt
 
-  -- the last was the 32nd
-  pub all_of_them : (items : List code.Call) (n : ℕ) → n ≡ 32 → map call_of items ≡ before ++ map f (range_with_len 0 n) → map call_of items ≡ before ++ each f
-  unfolding each
-  all_of_them items n all so_far = so_far ∙ ap (λ k. before ++ map f (range_with_len 0 k)) all
-
--- The whole list, part by part.
-pub all_calls : (bytes : List ℕ) (job : Bor (List ℕ)) (budget observer : ℕ) (new graded mounted were_set all : List code.Call) → new ≡ [] → map call_of graded ≡ map call_of new ++ each (λ v. grade v (level bytes v)) → mounted ≡ graded ++ (variant.Seal ∷ variant.Mount job ∷ []) → job.now ≡ job_of bytes → map call_of were_set ≡ map call_of mounted ++ each (λ v. set v (value bytes v)) → all ≡ were_set ++ (variant.Start ∷ variant.Advance budget ∷ variant.End ∷ variant.Show observer 160 ∷ []) → budget ≡ budget_of bytes → observer ≡ observer_of bytes → map call_of all ≡ calls bytes
-all_calls bytes job budget observer new graded mounted were_set all none g m j s a b w =
-    let first : map call_of graded ≡ each (λ v. grade v (level bytes v)) = g ∙ ap (λ xs. map call_of xs ++ each (λ v. grade v (level bytes v))) none in
-    let second : map call_of mounted ≡ each (λ v. grade v (level bytes v)) ++ (seal ∷ mount (job_of bytes) ∷ []) = ap (map call_of) m ∙ map-append call_of graded _ ∙ (λ i. first i ++ (seal ∷ mount (j i) ∷ [])) in
-    let third : map call_of were_set ≡ (each (λ v. grade v (level bytes v)) ++ (seal ∷ mount (job_of bytes) ∷ [])) ++ each (λ v. set v (value bytes v)) = s ∙ ap (λ xs. xs ++ each (λ v. set v (value bytes v))) second in
-    ap (map call_of) a ∙ map-append call_of were_set _
-    ∙ (λ i. third i ++ (start ∷ advance (b i) ∷ end ∷ show (w i) 160 ∷ []))
+-- The four parts of the chain are the whole list.
+pub all_parts : (bytes job : List ℕ) (budget observer : ℕ) → job ≡ job_of bytes → budget ≡ budget_of bytes → observer ≡ observer_of bytes → ((each (λ v. grade v (level bytes v)) ++ (seal ∷ mount job ∷ [])) ++ each (λ v. set v (value bytes v))) ++ (start ∷ advance budget ∷ end ∷ show observer 160 ∷ []) ≡ calls bytes
+all_parts bytes job budget observer j b w =
+    (λ i. ((each (λ v. grade v (level bytes v)) ++ (seal ∷ mount (j i) ∷ [])) ++ each (λ v. set v (value bytes v))) ++ (start ∷ advance (b i) ∷ end ∷ show (w i) 160 ∷ []))
     ∙ simp append_assoc

@@ -1,3 +1,4 @@
+pub mod Made
 pub mod Rows
 pub mod CallFacts
 pub mod LineFacts

@@ -1,28 +1,24 @@
 -- The rows of a sheet, line by line. Assumes nothing.
-use Rattle.std.proofs.Common.{◌≡◌, ℕ, ◌+◌, ◌-◌, ◌*◌, ◌<◌, ◌≤◌, List, [], ◌∷◌, ◌++◌, length, get_or, take, drop, ℤ, sym, refl, ap, ◌∙◌, ap₂, append_assoc, arith, length-drop, take_all, w32, to_z}
+use Rattle.std.proofs.Common.{◌≡◌, ℕ, zero, suc, ◌+◌, ◌*◌, ◌<◌, ◌≤◌, List, [], ◌∷◌, ◌++◌, length, get_or, refl, ap, arith, w32, to_z}
+use Rattle.std.specs.List.{flat_map}
+use Rattle.std.specs.Simd.{first_chunks}
 use Rattle.report.specs.Report.{row, rows}
 
-pub rows_more : (xs : List ℕ) → 5 ≤ length xs → rows xs ≡ row (get_or xs 0 0) (to_z w32 (get_or xs 1 0 + get_or xs 2 0 * 256 + get_or xs 3 0 * 65536 + get_or xs 4 0 * 16777216)) ++ rows (drop 5 xs)
-unfolding rows
-rows_more [] h = absurd (omega arith)
-rows_more (a ∷ []) h = absurd (omega arith)
-rows_more (a ∷ b ∷ []) h = absurd (omega arith)
-rows_more (a ∷ b ∷ c ∷ []) h = absurd (omega arith)
-rows_more (a ∷ b ∷ c ∷ d ∷ []) h = absurd (omega arith)
-rows_more (a ∷ b ∷ c ∷ d ∷ e ∷ xs) h = refl
+abbrev pub line_row : List ℕ → List ℕ
+line_row line = row (get_or line 0 0) (to_z w32 (get_or line 1 0 + get_or line 2 0 * 256 + get_or line 3 0 * 65536 + get_or line 4 0 * 16777216))
 
-pub rows_none : (xs : List ℕ) → length xs < 5 → rows xs ≡ []
+pub rows_by_line : (k : ℕ) (xs : List ℕ) → k * 5 ≤ length xs → length xs < k * 5 + 5 → flat_map line_row (first_chunks 5 k xs) ≡ rows xs
 unfolding rows
-rows_none [] h = refl
-rows_none (a ∷ []) h = refl
-rows_none (a ∷ b ∷ []) h = refl
-rows_none (a ∷ b ∷ c ∷ []) h = refl
-rows_none (a ∷ b ∷ c ∷ d ∷ []) h = refl
-rows_none (a ∷ b ∷ c ∷ d ∷ e ∷ xs) h = absurd (omega arith)
-
--- One line more is written: what was to be written of all lines is the same.
-pub rows_turn : (written more all xs : List ℕ) (value : ℤ) → 5 ≤ length xs → written ++ rows xs ≡ all → value ≡ to_z w32 (get_or xs 1 0 + get_or xs 2 0 * 256 + get_or xs 3 0 * 65536 + get_or xs 4 0 * 16777216) → more ≡ written ++ row (get_or xs 0 0) value → more ++ rows (take (length xs - 5) (drop 5 xs)) ≡ all
-rows_turn written more all xs value long so_far read wrote =
-    let rest : take (length xs - 5) (drop 5 xs) ≡ drop 5 xs = take_all (length xs - 5) (drop 5 xs) (simp length-drop (omega arith)) in
-    let front : more ≡ written ++ row (get_or xs 0 0) (to_z w32 (get_or xs 1 0 + get_or xs 2 0 * 256 + get_or xs 3 0 * 65536 + get_or xs 4 0 * 16777216)) = wrote ∙ ap (λ v. written ++ row (get_or xs 0 0) v) read in
-    ap₂ (λ (m : List ℕ) (r : List ℕ). m ++ rows r) front rest ∙ append_assoc written _ _ ∙ ap (λ r. written ++ r) (sym (rows_more xs long)) ∙ so_far
+rows_by_line zero [] low high = refl
+rows_by_line zero (a ∷ []) low high = refl
+rows_by_line zero (a ∷ b ∷ []) low high = refl
+rows_by_line zero (a ∷ b ∷ c ∷ []) low high = refl
+rows_by_line zero (a ∷ b ∷ c ∷ d ∷ []) low high = refl
+rows_by_line zero (a ∷ b ∷ c ∷ d ∷ e ∷ xs) low high = absurd (omega arith)
+rows_by_line (suc k) [] low high = absurd (omega arith)
+rows_by_line (suc k) (a ∷ []) low high = absurd (omega arith)
+rows_by_line (suc k) (a ∷ b ∷ []) low high = absurd (omega arith)
+rows_by_line (suc k) (a ∷ b ∷ c ∷ []) low high = absurd (omega arith)
+rows_by_line (suc k) (a ∷ b ∷ c ∷ d ∷ []) low high = absurd (omega arith)
+rows_by_line (suc k) (a ∷ b ∷ c ∷ d ∷ e ∷ xs) low high =
+    ap (λ rest. line_row (a ∷ b ∷ c ∷ d ∷ e ∷ []) ++ rest) (rows_by_line k xs (omega arith) (omega arith))

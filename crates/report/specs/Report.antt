@@ -78,9 +78,13 @@ answers_text answers = cond (any_refused answers) bad_input (lines answers)
 abbrev pub report_over : Order → List ℕ → List ℕ
 report_over o bytes = answers_text (transcript o (calls bytes))
 
-abbrev pub report_by_kind : Option Order → List ℕ → List ℕ
-report_by_kind None bytes = bad_input
-report_by_kind (Some o) bytes = report_over o bytes
+-- What is written of an input, where so is written over the lattice that it names.
+abbrev pub text_by_kind : (Order → List ℕ → List ℕ) → Option Order → List ℕ → List ℕ
+text_by_kind over None bytes = bad_input
+text_by_kind over (Some o) bytes = over o bytes
+
+abbrev pub input_text : (Order → List ℕ → List ℕ) → List ℕ → List ℕ
+input_text over bytes = cond (fits bytes) (text_by_kind over (kind (slice_index bytes 0)) bytes) bad_input
 
 abbrev pub report : List ℕ → List ℕ
-report bytes = cond (fits bytes) (report_by_kind (kind (slice_index bytes 0)) bytes) bad_input
+report bytes = input_text report_over bytes

@@ -1,76 +1,70 @@
-ghost use Rattle.std.specs.Prelude.{◌≡◌, slice_index};
+ghost use Rattle.std.specs.Prelude.{◌≡◌, ℕ, ◌+◌, ◌<◌, ◌^◌, slice_index};
 ghost use Rattle.report.specs.Input.{level as level_of, value as value_of_lem, observer as observer_of, budget as budget_of, fits as fits_of, job as job_of};
 
-// The fewest and the most bytes of a bench input.
-pub const INPUT_SHORTEST: usize = 199;
-
-pub const INPUT_LONGEST: usize = 4555;
+use std::array;
 
 // The bytes of a bench input.
-#[derive(Drop)]
+#[derive(Clone, Copy)]
 pub struct Input<'a> {
     pub bytes: &'a [u8],
 }
 
-impl Input<'_> {
+impl<'a> Input<'a> {
+    // The fewest and the most bytes of an input.
+    pub const SHORTEST: usize = 199;
+
+    pub const LONGEST: usize = 4555;
+
     // Whether the length is one that an input may have.
     pub fn fits(&self) -> bool
         ensures { result ≡ fits_of self.now.bytes.now }
     {
-        INPUT_SHORTEST <= self.bytes.len() && self.bytes.len() <= INPUT_LONGEST
+        (Self::SHORTEST..=Self::LONGEST).contains(&self.bytes.len())
     }
 
     // The byte at a place; 0 past the end.
     pub fn byte(&self, at: usize) -> u8
         ensures { result ≡ slice_index self.now.bytes.now at }
     {
-        if at < self.bytes.len() {
-            self.bytes[at]
-        } else {
-            0
-        }
+        self.bytes.get(at).copied().unwrap_or(0)
+    }
+
+    // So many bytes from a place on.
+    fn field<const N: usize>(&self, at: usize) -> [u8; N]
+        requires { at + N < 2 ^ 64 }
+        ensures { (k : ℕ) → k < N → slice_index result k ≡ slice_index self.now.bytes.now (at + k) }
+    {
+        array::from_fn(|k| self.byte(at + k))
     }
 
     pub fn level(&self, variable: u8) -> u16
         ensures { result ≡ level_of self.now.bytes.now variable }
     {
-        let at = 2 * usize::from(variable);
-        u16::from_le_bytes([self.byte(1 + at), self.byte(2 + at)])
+        u16::from_le_bytes(self.field(1 + 2 * usize::from(variable)))
     }
 
     pub fn value(&self, variable: u8) -> i32
         ensures { result ≡ value_of_lem self.now.bytes.now variable }
     {
-        let at = 4 * usize::from(variable);
-        i32::from_le_bytes([
-            self.byte(65 + at),
-            self.byte(66 + at),
-            self.byte(67 + at),
-            self.byte(68 + at),
-        ])
+        i32::from_le_bytes(self.field(65 + 4 * usize::from(variable)))
     }
 
     pub fn observer(&self) -> u16
         ensures { result ≡ observer_of self.now.bytes.now }
     {
-        u16::from_le_bytes([self.byte(193), self.byte(194)])
+        u16::from_le_bytes(self.field(193))
     }
 
     pub fn budget(&self) -> u32
         ensures { result ≡ budget_of self.now.bytes.now }
     {
-        u32::from_le_bytes([
-            self.byte(195),
-            self.byte(196),
-            self.byte(197),
-            self.byte(198),
-        ])
+        u32::from_le_bytes(self.field(195))
     }
 
     // The job's bytes; none where the input ends before them.
-    pub fn job(&self) -> &[u8]
+    pub fn job(&self) -> &'a [u8]
         ensures { result.now ≡ job_of self.now.bytes.now }
     {
-        &self.bytes[INPUT_SHORTEST.min(self.bytes.len())..]
+        self.bytes.get(Self::SHORTEST..).unwrap_or(&[])
     }
 }

@@ -1,5 +1,7 @@
-ghost use Rattle.std.specs.Prelude.{◌≡◌, IfOk, string_bytes};
-ghost use Rattle.report.specs.Report.{report_over as report_over_of, report as report_of};
+ghost use Rattle.std.specs.Prelude.{◌≡◌, ℕ, List, IfOk, string_bytes};
+ghost use Rattle.lattice.specs.Order.{Order};
+ghost use Rattle.report.specs.Report.{input_text, report_over as report_over_of, report as report_of};
+ghost use Rattle.report.specs.Of.{Reads};
 
 use crate::calls::calls;
 use crate::input::Input;
@@ -8,35 +10,85 @@ use controller::transcript;
 use lattice::{Flip, Ladder, Lattice, Owners, Pair};
 use std::alloc::{AllocError, Global};
 
-// The report over the lattice that the input names.
-fn report_over<L: Lattice + Drop>(
-    heap: Global,
-    lattice: L,
-    input: &Input,
-) -> Result<String, AllocError>
-    ensures { IfOk result (λ t. string_bytes t ≡ report_over_of (L.Lattice.order lattice) input.now.bytes.now) }
+// The kinds of lattice that an input can name.
+#[derive(Clone, Copy)]
+enum Kind {
+    Ladder,
+    Owners,
+    Pair,
+}
+
+// A byte that names no kind.
+#[derive(Clone, Copy)]
+struct NoKind;
+
+impl TryFrom<u8> for Kind {
+    type Error = NoKind;
+
+    ghost try_from_gives = { Reads };
+
+    fn try_from(byte: u8) -> Result<Kind, NoKind> {
+        match byte {
+            0 => Ok(Kind::Ladder),
+            1 => Ok(Kind::Owners),
+            2 => Ok(Kind::Pair),
+            _ => Err(NoKind),
+        }
+    }
+}
+
+// A way to report on an input, over whichever lattice it names.
+pub trait Reporter {
+    ghost text: { Order → List ℕ → List ℕ };
+
+    fn report_over<L: Lattice + Drop>(
+        heap: Global,
+        lattice: L,
+        input: &Input,
+    ) -> Result<String, AllocError>
+        ensures { IfOk result (λ t. string_bytes t ≡ text (L.Lattice.order lattice) input.now.bytes.now) };
+}
+
+// A reporter's report on a bench input, or the line `input` where it is none.
+pub fn report_by<R: Reporter>(heap: Global, bytes: &[u8]) -> Result<String, AllocError>
+    ensures { IfOk result (λ t. string_bytes t ≡ input_text R.text bytes.now) }
 {
-    let calls = calls(heap, &*input)?;
-    let answers = transcript(heap, lattice, calls.as_slice())?;
-    answers_text(heap, answers.as_slice())
+    let input = Input { bytes };
+    if !input.fits() {
+        return bad_input(heap);
+    }
+    match Kind::try_from(input.byte(0)) {
+        Ok(Kind::Ladder) => R::report_over(heap, Ladder::new(16), &input),
+        Ok(Kind::Owners) => R::report_over(heap, Owners::new(4), &input),
+        Ok(Kind::Pair) => R::report_over(
+            heap,
+            Pair::new(Ladder::new(4), Flip::new(Ladder::new(4))),
+            &input,
+        ),
+        Err(NoKind) => bad_input(heap),
+    }
+}
+
+// Makes the calls for an input, and reports what they answer.
+struct Transcript;
+
+impl Reporter for Transcript {
+    ghost text = { report_over_of };
+
+    fn report_over<L: Lattice + Drop>(
+        heap: Global,
+        lattice: L,
+        input: &Input,
+    ) -> Result<String, AllocError> {
+        let calls = calls(heap, input)?;
+        let answers = transcript(heap, lattice, calls.as_slice())?;
+        answers_text(heap, answers.as_slice())
+    }
 }
 
 // The report on a bench input, or the line `input` where it is none.
 pub fn report(heap: Global, bytes: &[u8]) -> Result<String, AllocError>
     ensures { IfOk result (λ t. string_bytes t ≡ report_of bytes.now) }
 {
-    let input = Input { bytes };
-    if !input.fits() {
-        return bad_input(heap);
-    }
-    match input.byte(0) {
-        0 => report_over(heap, Ladder::new(16), &input),
-        1 => report_over(heap, Owners::new(4), &input),
-        2 => report_over(
-            heap,
-            Pair::new(Ladder::new(4), Flip::new(Ladder::new(4))),
-            &input,
-        ),
-        _ => bad_input(heap),
-    }
+    report_by::<Transcript>(heap, bytes)
 }

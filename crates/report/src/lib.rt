@@ -6,5 +6,6 @@ mod input;
 mod kinds;
 mod text;
 
-pub use input::INPUT_LONGEST;
-pub use kinds::report;
+pub use input::Input;
+pub use kinds::{Reporter, report, report_by};
+pub use text::{LINE, bad_input, push_mount, push_sheet};

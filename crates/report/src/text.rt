@@ -1,11 +1,14 @@
 ghost use Rattle.std.specs.Prelude.{◌≡◌, ◌++◌, map, IfOk, string_bytes, OnOk};
 ghost use Rattle.checker.specs.Faults.{mount_answer};
 ghost use Rattle.controller.specs.Of.{answer_of};
-ghost use Rattle.report.specs.Report.{bad_input as bad_input_text, row as row_of, rows as rows_of_lem, sheet_text as sheet_text_of, answer_lines, is_refused as is_refused_of, answers_text as answers_text_of};
+ghost use Rattle.report.specs.Report.{bad_input as bad_input_text, rows, sheet_text, mount_line, answer_lines, is_refused as is_refused_of, answers_text as answers_text_of};
 
 use checker::MountFault;
 use controller::Answer;
 use std::alloc::{AllocError, Global};
+
+// The bytes of a sheet's line: a variable and its value.
+pub const LINE: usize = 5;
 
 // The line of what is no input.
 pub fn bad_input(heap: Global) -> Result<String, AllocError>
@@ -14,69 +17,57 @@ pub fn bad_input(heap: Global) -> Result<String, AllocError>
     String::from_str(heap, "input\n")
 }
 
-// Appends a variable and its value.
-fn push_row(heap: Global, text: &mut String, variable: u8, value: i32) -> Result<(), AllocError>
-    ensures { OnOk result (string_bytes text.new ≡ string_bytes text.old ++ row_of variable value) }
-{
-    let row = format!(in heap; "{variable} {value}\n")?;
-    text.push_str(row.as_str())
-}
-
 // Appends a row for each line of a sheet.
-fn push_rows(heap: Global, text: &mut String, sheet: &[u8]) -> Result<(), AllocError>
-    ensures { OnOk result (string_bytes text.new ≡ string_bytes text.old ++ rows_of_lem sheet.now) }
+fn push_rows(text: &mut String, sheet: &[u8]) -> Result<(), AllocError>
+    ensures { OnOk result (string_bytes text.new ≡ string_bytes text.old ++ rows sheet.now) }
 {
-    let mut lines = sheet;
-    while let [variable, b0, b1, b2, b3, rest @ ..] = lines {
-        push_row(
-            heap,
-            text,
-            *variable,
-            i32::from_le_bytes([*b0, *b1, *b2, *b3]),
-        )?;
-        lines = rest;
+    let (lines, _) = sheet.as_chunks::<LINE>();
+    for &[variable, b0, b1, b2, b3] in lines {
+        let value = i32::from_le_bytes([b0, b1, b2, b3]);
+        writeln!(text, "{variable} {value}")?;
     }
     Ok(())
 }
 
-// The text of a sheet with so many lines.
-fn sheet_text(heap: Global, count: usize, sheet: &[u8]) -> Result<String, AllocError>
-    ensures { IfOk result (λ t. string_bytes t ≡ sheet_text_of count sheet.now) }
+// Appends the text of a sheet with so many lines.
+pub fn push_sheet(text: &mut String, count: usize, sheet: &[u8]) -> Result<(), AllocError>
+    ensures { OnOk result (string_bytes text.new ≡ string_bytes text.old ++ sheet_text count sheet.now) }
 {
-    let mut text = format!(in heap; "sheet {count}\n")?;
-    push_rows(heap, &mut text, sheet)?;
-    Ok(text)
+    writeln!(text, "sheet {count}")?;
+    push_rows(text, sheet)
 }
 
 // The number and the label that a mount answers.
 fn numbers(answer: &Result<(), MountFault>) -> (u8, u16)
     ensures { result ≡ mount_answer answer.now }
 {
-    match answer {
-        Ok(()) => (0, 0),
-        Err(fault) => fault.answer(),
-    }
+    answer.err().map_or((0, 0), |fault| fault.answer())
 }
 
-// The lines of an answer.
-fn answer_text(heap: Global, answer: &Answer) -> Result<String, AllocError>
-    ensures { IfOk result (λ t. string_bytes t ≡ answer_lines (answer_of answer.now)) }
+// Appends the line of a mount's answer.
+pub fn push_mount(text: &mut String, answer: &Result<(), MountFault>) -> Result<(), AllocError>
+    ensures { OnOk result (string_bytes text.new ≡ string_bytes text.old ++ mount_line (mount_answer answer.now)) }
+{
+    let (number, label) = numbers(answer);
+    writeln!(text, "mount {number} {label}")
+}
+
+// Appends the lines of an answer.
+fn push_answer(text: &mut String, answer: &Answer) -> Result<(), AllocError>
+    ensures { OnOk result (string_bytes text.new ≡ string_bytes text.old ++ answer_lines (answer_of answer.now)) }
 {
     match answer {
-        Answer::Mounted(mounted) => {
-            let (number, label) = numbers(mounted);
-            format!(in heap; "mount {number} {label}\n")
-        }
+        Answer::Mounted(mounted) => push_mount(text, mounted),
         Answer::Advanced(status, steps) => {
             let number = status.number();
-            format!(in heap; "run {number} {steps}\n")
+            writeln!(text, "run {number} {steps}")
         }
         Answer::Ended(ending) => {
             let number = ending.number();
-            format!(in heap; "end {number}\n")
+            writeln!(text, "end {number}")
         }
-        Answer::Shown(Ok(sheet)) => sheet_text(heap, sheet.count, sheet.bytes.as_slice()),
-        _ => Ok(String::new(heap)),
+        Answer::Shown(Ok(sheet)) => push_sheet(text, sheet.count, sheet.bytes.as_slice()),
+        _ => Ok(()),
     }
 }
 
@@ -84,23 +75,19 @@ fn answer_text(heap: Global, answer: &Answer) -> Result<String, AllocError>
 fn is_refused(answer: &Answer) -> bool
     ensures { result ≡ is_refused_of (answer_of answer.now) }
 {
-    match answer {
-        Answer::Graded(Err(_)) | Answer::Shown(Err(_)) => true,
-        _ => false,
-    }
+    matches!(answer, Answer::Graded(Err(_)) | Answer::Shown(Err(_)))
 }
 
 // The text of the answers of a list.
 pub fn answers_text(heap: Global, answers: &[Answer]) -> Result<String, AllocError>
     ensures { IfOk result (λ t. string_bytes t ≡ answers_text_of (map answer_of answers.now)) }
 {
+    if answers.iter().any(is_refused) {
+        return bad_input(heap);
+    }
     let mut text = String::new(heap);
-    for place in 0..answers.len() {
-        if is_refused(&answers[place]) {
-            return bad_input(heap);
-        }
-        let lines = answer_text(heap, &answers[place])?;
-        text.push_str(lines.as_str())?;
+    for answer in answers {
+        push_answer(&mut text, answer)?;
     }
     Ok(text)
 }

@@ -1,22 +1,23 @@
-use Rattle.std.proofs.Common.{◌≡◌, ◌++◌, IfOk, string_bytes, sym, ap, ◌∙◌, subst}
+use Rattle.std.proofs.Common.{◌≡◌, take_all, map, true, false, sym, ap, ◌∙◌, rules, arith}
+use Rattle.std.specs.List.{flat_map}
+use Rattle.std.proofs.lemmas.Iterator.{YieldsList-from_slice}
+use Rattle.std.proofs.lemmas.Iterator.Search.{any_from_yields_List}
 use Rattle.controller.specs.Of.{answer_of}
-use Rattle.report.specs.Report.{answer_lines, is_refused}
-use Rattle.report.proofs.LineFacts.{one_printed, one_accepted, one_is_refused, all_printed}
+use Rattle.report.specs.Report.{answer_lines, is_refused, any_refused}
+use Rattle.report.proofs.LineFacts.{lines_of, refused_of}
 use Rattle.report.proofs.text.answers_text.Goals as goal
 
-pub returns-then-is_refused : goal.returns-then-is_refused
-returns-then-is_refused c =
-    let refused = ap (λ a. is_refused (answer_of a)) (sym c.index-answers-place.is) ∙ sym c.if-is_refused.ensures in
-    let bad = one_is_refused c.args.answers.now c.loop-place.place _ c.loop-place-test.true c.loop-place.invariant.1 refused in
-    subst (λ text. IfOk c.bad_input.result (λ t. string_bytes t ≡ text)) bad c.bad_input.ensures
-
-pub loop-place-preserved : goal.loop-place-preserved
-loop-place-preserved c =
-    let accepted = ap (λ a. is_refused (answer_of a)) (sym c.index-answers-place.is) ∙ sym c.if-is_refused.ensures in
-    let printed = c.in_ok-push_str.ensures.bytes ∙ ap (λ t. string_bytes c.loop-place.text ++ t) (c.as_str.ensures.value ∙ c.in_ok-lines.ensures ∙ ap (λ a. answer_lines (answer_of a)) c.index-answers-place-in-loop-place.is) in (
-      one_printed c.args.answers.now c.loop-place.place _ c.loop-place-test.true _ _ _ c.loop-place.invariant.0 printed,
-      one_accepted c.args.answers.now c.loop-place.place _ c.loop-place-test.true _ c.loop-place.invariant.1 accepted,
-    )
+pub returns-then-any : goal.returns-then-any
+returns-then-any c =
+    let answers = c.args.answers.now in
+    let tested = any_from_yields_List (λ a. is_refused (answer_of a)) _ _ c.any.result c.any.ensures.ran (YieldsList-from_slice answers cc) (λ x b q k. search rules) in
+    let refused : any_refused (map answer_of answers) ≡ true = sym (refused_of answers) ∙ sym tested ∙ c.if-any.true in
+    rw refused c.bad_input.ensures
 
 pub returns : goal.returns
-returns c = all_printed c.args.answers.now c.loop-place.place (string_bytes c.loop-place.text) c.loop-place-test.false c.loop-place.invariant.0 c.loop-place.invariant.1
+returns c =
+    let answers = c.args.answers.now in
+    let tested = any_from_yields_List (λ a. is_refused (answer_of a)) _ _ c.any.result c.any.ensures.ran (YieldsList-from_slice answers cc) (λ x b q k. search rules) in
+    let accepted : any_refused (map answer_of answers) ≡ false = sym (refused_of answers) ∙ sym tested ∙ c.if-any.false in
+    let all = take_all c.loop-answer.answer-index answers (omega arith) in
+    rw accepted (c.loop-answer.invariant ∙ ap (flat_map (λ a. answer_lines (answer_of a))) all ∙ lines_of answers)

@@ -1,9 +1,8 @@
-use Rattle.std.proofs.Common.{◌≡◌, ◌++◌, map, drop, string_bytes}
+use Rattle.std.proofs.Common.{◌≡◌, take, string_bytes}
+use Rattle.std.specs.List.{flat_map}
 use Rattle.controller.specs.Of.{answer_of}
-use Rattle.report.specs.Report.{lines, any_refused}
+use Rattle.report.specs.Report.{answer_lines}
 use Rattle.report.proofs.text.answers_text.Given as goal
 
-abbrev pub invariant-loop-place : goal.invariant-loop-place
-invariant-loop-place l =
-    let answers = map answer_of l.answers in
-    (string_bytes l.text ++ lines (drop l.place answers) ≡ lines answers) × (any_refused (drop l.place answers) ≡ any_refused answers)
+abbrev pub invariant-loop-answer : goal.invariant-loop-answer
+invariant-loop-answer l = string_bytes l.text ≡ flat_map (λ a. answer_lines (answer_of a)) (take l.answer-index l.answers)

@@ -1,7 +1,7 @@
 use Rattle.std.proofs.Common.{◌≡◌, ℕ, ◌<◌, true, ltb, get_or}
 use Rattle.job.specs.Records.{all_below}
-use Rattle.bench.specs.Input.{level}
-use Rattle.bench.proofs.report.grade_all.Given as goal
+use Rattle.report.specs.Input.{level}
+use Rattle.bench.proofs.mounted.grade_all.Given as goal
 
 abbrev pub invariant-loop-variable : goal.invariant-loop-variable
 invariant-loop-variable g l =

@@ -1,7 +1,7 @@
 use Rattle.std.proofs.Common.{◌≡◌, ℕ, ◌<◌, get_or, pos}
 use Rattle.push.specs.Code.{code}
-use Rattle.bench.specs.Input.{value}
-use Rattle.bench.proofs.report.set_all.Given as goal
+use Rattle.report.specs.Input.{value}
+use Rattle.bench.proofs.mounted.set_all.Given as goal
 
 abbrev pub invariant-loop-variable : goal.invariant-loop-variable
 invariant-loop-variable g l =

@@ -2,9 +2,9 @@ use Rattle.std.proofs.Common.{◌<◌, length, set, pos, refl, ap, ◌∙◌, ar
 use Rattle.std.proofs.lemmas.List.Edits.{fill_by_more}
 use Rattle.controller.specs.Of.{ready_state}
 use Rattle.controller.proofs.Outcomes.{was_set}
-use Rattle.bench.specs.Input.{value}
+use Rattle.report.specs.Input.{value}
 use Rattle.bench.proofs.Fields.{each_at}
-use Rattle.bench.proofs.report.set_all.Goals as goal
+use Rattle.bench.proofs.mounted.set_all.Goals as goal
 
 pub loop-variable-init : goal.loop-variable-init
 loop-variable-init g c = (λ k h. absurd (omega arith), refl, refl, refl)

@@ -1,0 +1,11 @@
+use Rattle.std.proofs.Common.{arith}
+use Rattle.controller.specs.Of.{ready_state}
+use Rattle.controller.proofs.Outcomes.{not_shown}
+use Rattle.bench.proofs.mounted.shown_text.Goals as goal
+
+pub returns-in_default : goal.returns-in_default
+returns-in_default g c =
+    let o = g.L.Lattice.order c.args.ready.now.lattice in
+    let s = ready_state c.args.ready.now in
+    let told = not_shown o s c.args.observer _ c.args.buffer.now c.show.new.buffer (omega arith) c.in_default.ensures.outcome in
+    rw told c.bad_input.ensures
