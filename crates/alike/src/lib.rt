@@ -175,7 +175,7 @@ mod tests {
         let right = transcript(heap, right, &calls(job.as_slice(), levels, -1, 1000))?;
         let (left_open, left_all) = sheets(rt, left.as_slice())?;
         let (right_open, right_all) = sheets(rt, right.as_slice())?;
-        assert_eq!(rt; left_open.count, right_open.count);
+        assert_eq!(rt; left_open.count(), right_open.count());
         assert_eq!(rt; left_open.bytes.as_slice(), right_open.bytes.as_slice());
         assert_eq!(rt; left_open.bytes.as_slice(), OPEN.as_slice());
         assert_ne!(rt; left_all.bytes.as_slice(), right_all.bytes.as_slice());

@@ -20,7 +20,7 @@ fn shown_text<L: Lattice>(
     buffer: &mut [u8],
 ) -> Result<String, AllocError>
     requires { length buffer.old ≡ 160 }
-    ensures { IfOk result (λ t. string_bytes t ≡ shown_text_of (L.Lattice.order ready.now.lattice) (mount_answer mounted.now) (ready_state ready.now) observer) }
+    ensures { IfOk result (λ t. string_bytes t ≡ shown_text_of (L.Lattice.order ready.now.grades.lattice) (mount_answer mounted.now) (ready_state ready.now) observer) }
 {
     let Ok(count) = ready.show(observer, buffer) else {
         return bad_input(heap);
@@ -33,9 +33,9 @@ fn shown_text<L: Lattice>(
 
 // Gives each variable its level, up to the first code that is no level.
 fn grade_all<L: Lattice>(setup: &mut Setup<L>, input: &Input) -> Result<(), Refusal>
-    ensures test { is_ok result ≡ all_levels (L.Lattice.order setup.old.lattice) input.now.bytes.now }
-    ensures levels { IfOk result (λ _. setup.new.levels ≡ each (level input.now.bytes.now)) }
-    ensures same_lattice { setup.new.lattice ≡ setup.old.lattice }
+    ensures test { is_ok result ≡ all_levels (L.Lattice.order setup.old.grades.lattice) input.now.bytes.now }
+    ensures levels { IfOk result (λ _. setup.new.grades.levels ≡ each (level input.now.bytes.now)) }
+    ensures same_lattice { setup.new.grades.lattice ≡ setup.old.grades.lattice }
 {
     for variable in 0..VARIABLES as u8 {
         setup.grade(variable, input.level(variable))?;
@@ -46,7 +46,7 @@ fn grade_all<L: Lattice>(setup: &mut Setup<L>, input: &Input) -> Result<(), Refu
 // Gives each variable its value.
 fn set_all<L: Lattice>(ready: &mut Ready<L>, input: &Input)
     ensures state { ready_state ready.new ≡ with_values input.now.bytes.now (ready_state ready.old) }
-    ensures same_lattice { ready.new.lattice ≡ ready.old.lattice }
+    ensures same_lattice { ready.new.grades.lattice ≡ ready.old.grades.lattice }
 {
     for variable in 0..VARIABLES as u8 {
         let _ = ready.set(variable, input.value(variable));

@@ -41,7 +41,9 @@ pub fn push_sheet(text: &mut String, count: usize, sheet: &[u8]) -> Result<(), A
 fn numbers(answer: &Result<(), MountFault>) -> (u8, u16)
     ensures { result ≡ mount_answer answer.now }
 {
-    answer.err().map_or((0, 0), |fault| fault.answer())
+    answer
+        .err()
+        .map_or((0, 0), |fault| <(u8, u16)>::from(fault))
 }
 
 // Appends the line of a mount's answer.
@@ -59,14 +61,14 @@ fn push_answer(text: &mut String, answer: &Answer) -> Result<(), AllocError>
     match answer {
         Answer::Mounted(mounted) => push_mount(text, mounted),
         Answer::Advanced(status, steps) => {
-            let number = status.number();
+            let number = u8::from(*status);
             writeln!(text, "run {number} {steps}")
         }
         Answer::Ended(ending) => {
-            let number = ending.number();
+            let number = u8::from(*ending);
             writeln!(text, "end {number}")
         }
-        Answer::Shown(Ok(sheet)) => push_sheet(text, sheet.count, sheet.bytes.as_slice()),
+        Answer::Shown(Ok(sheet)) => push_sheet(text, sheet.count(), sheet.bytes.as_slice()),
         _ => Ok(()),
     }
 }

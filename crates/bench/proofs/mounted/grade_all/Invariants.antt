@@ -5,4 +5,4 @@ use Rattle.bench.proofs.mounted.grade_all.Given as goal
 
 abbrev pub invariant-loop-variable : goal.invariant-loop-variable
 invariant-loop-variable g l =
-    ((k : ℕ) → k < l.variable → get_or l.setup.levels k 0 ≡ level l.input.bytes.now k) × (all_below (λ variable. ltb (level l.input.bytes.now variable) (g.L.Lattice.order l.initial.setup.lattice).span) l.variable ≡ true) × (l.setup.lattice ≡ l.initial.setup.lattice)
+    ((k : ℕ) → k < l.variable → get_or l.setup.grades.levels k 0 ≡ level l.input.bytes.now k) × (all_below (λ variable. ltb (level l.input.bytes.now variable) (g.L.Lattice.order l.initial.setup.grades.lattice).span) l.variable ≡ true) × (l.setup.grades.lattice ≡ l.initial.setup.grades.lattice)

@@ -5,7 +5,7 @@ use Rattle.bench.proofs.mounted.shown_text.Goals as goal
 
 pub returns-in_default : goal.returns-in_default
 returns-in_default g c =
-    let o = g.L.Lattice.order c.args.ready.now.lattice in
+    let o = g.L.Lattice.order c.args.ready.now.grades.lattice in
     let s = ready_state c.args.ready.now in
     let told = not_shown o s c.args.observer _ c.args.buffer.now c.show.new.buffer (omega arith) c.in_default.ensures.outcome in
     rw told c.bad_input.ensures
