@@ -13,7 +13,7 @@ use push::Kind;
 pub struct Claim<'a> {
     pub depth: u8,
     pub surrounding: u16,
-    record: &'a [u8],
+    pub record: &'a [u8],
 }
 
 // A claimed stack place: a kind and a level.
