@@ -11,7 +11,7 @@ mod tests {
     use std::test::Fail;
 
     // The codes of a lattice's ends, of an observer and of a level that is closed to it.
-    #[derive(Drop)]
+    #[derive(Clone, Copy)]
     struct Levels {
         lowest: u8,
         observer: u8,
@@ -19,44 +19,91 @@ mod tests {
         highest: u8,
     }
 
-    // The kinds of a stack place.
-    const INT: u8 = 0;
+    // A place of the stack, by its kind and level.
+    #[derive(Clone, Copy)]
+    enum Place {
+        Int(u8),
+        Bool(u8),
+    }
 
-    const BOOL: u8 = 1;
+    impl Place {
+        // The bytes of a place: its kind and its level.
+        fn bytes(self) -> [u8; 2] {
+            match self {
+                Place::Int(level) => [0, level],
+                Place::Bool(level) => [1, level],
+            }
+        }
+    }
 
-    // The operation, junction and operand of each label. Variable 2 becomes 5 where variable 1 is 0, and else 9; then
-    // variable 0 becomes the sum of variables 3 and 4.
-    const INSTRUCTIONS: [[u8; 3]; 12] = [
-        [1, 0, 1],
-        [3, 0, 0],
-        [6, 0, 0],
-        [10, 7, 6],
-        [3, 0, 5],
-        [9, 0, 7],
-        [3, 0, 9],
-        [2, 0, 2],
-        [1, 0, 3],
-        [1, 0, 4],
-        [4, 0, 0],
-        [2, 0, 0],
+    // An instruction with its operand. The last goes to its operand where the top is false, and its ways meet at the
+    // junction.
+    #[derive(Clone, Copy)]
+    enum Instruction {
+        Load(u8),
+        Store(u8),
+        Push(u8),
+        Add,
+        Eq,
+        Goto(u8),
+        GotoFalse { junction: u8, operand: u8 },
+    }
+
+    impl Instruction {
+        // The bytes of a record: the operation, the junction and the operand.
+        fn record(self) -> [u8; 6] {
+            let [operation, junction, operand] = match self {
+                Instruction::Load(variable) => [1, 0, variable],
+                Instruction::Store(variable) => [2, 0, variable],
+                Instruction::Push(value) => [3, 0, value],
+                Instruction::Add => [4, 0, 0],
+                Instruction::Eq => [6, 0, 0],
+                Instruction::Goto(label) => [9, 0, label],
+                Instruction::GotoFalse { junction, operand } => [10, junction, operand],
+            };
+            [operation, junction, operand, 0, 0, 0]
+        }
+    }
+
+    // Variable 2 becomes 5 where variable 1 is 0, and else 9; then variable 0 becomes the sum of variables 3 and 4.
+    const PROGRAM: [Instruction; 12] = [
+        Instruction::Load(1),
+        Instruction::Push(0),
+        Instruction::Eq,
+        Instruction::GotoFalse {
+            junction: 7,
+            operand: 6,
+        },
+        Instruction::Push(5),
+        Instruction::Goto(7),
+        Instruction::Push(9),
+        Instruction::Store(2),
+        Instruction::Load(3),
+        Instruction::Load(4),
+        Instruction::Add,
+        Instruction::Store(0),
     ];
 
     // The observer's sheet after the run: 42, 30 and 12 in variables 0, 3 and 4.
     const OPEN: [u8; 15] = [0, 42, 0, 0, 0, 3, 30, 0, 0, 0, 4, 12, 0, 0, 0];
 
-    // The record of a claim with no stack place.
-    fn none(surrounding: u8) -> [u8; 10] {
-        [1, 0, surrounding, 0, 0, 0, 0, 0, 0, 0]
-    }
-
-    // The record of a claim with one stack place.
-    fn one(surrounding: u8, kind: u8, level: u8) -> [u8; 10] {
-        [1, 1, surrounding, 0, kind, level, 0, 0, 0, 0]
-    }
-
-    // The record of a claim with two ints, of which the top comes first.
-    fn two(surrounding: u8, top: u8, under: u8) -> [u8; 10] {
-        [1, 2, surrounding, 0, INT, top, 0, INT, under, 0]
+    // The record of a claim with at most two places on the stack, of which the top comes first.
+    fn claim(surrounding: u8, stack: &[Place]) -> [u8; 10] {
+        let count = stack.len().min(2) as u8;
+        let [top_kind, top_level] = stack.first().map_or([0; 2], |place| place.bytes());
+        let [kind, level] = stack.get(1).map_or([0; 2], |place| place.bytes());
+        [
+            1,
+            count,
+            surrounding,
+            0,
+            top_kind,
+            top_level,
+            0,
+            kind,
+            level,
+            0,
+        ]
     }
 
     // The claim of each label, with variables 1 and 2 at the closed level, and 0, 3 and 4 at the observer's.
@@ -68,26 +115,26 @@ mod tests {
             ..
         } = *levels;
         [
-            none(lowest),
-            one(lowest, INT, closed),
-            two(lowest, lowest, closed),
-            one(lowest, BOOL, closed),
-            none(closed),
-            one(closed, INT, closed),
-            none(closed),
-            one(lowest, INT, closed),
-            none(lowest),
-            one(lowest, INT, observer),
-            two(lowest, observer, observer),
-            one(lowest, INT, observer),
+            claim(lowest, &[]),
+            claim(lowest, &[Place::Int(closed)]),
+            claim(lowest, &[Place::Int(lowest), Place::Int(closed)]),
+            claim(lowest, &[Place::Bool(closed)]),
+            claim(closed, &[]),
+            claim(closed, &[Place::Int(closed)]),
+            claim(closed, &[]),
+            claim(lowest, &[Place::Int(closed)]),
+            claim(lowest, &[]),
+            claim(lowest, &[Place::Int(observer)]),
+            claim(lowest, &[Place::Int(observer), Place::Int(observer)]),
+            claim(lowest, &[Place::Int(observer)]),
         ]
     }
 
     // The bytes of the job.
     fn job(heap: Global, levels: &Levels) -> Result<Vec<u8>, AllocError> {
         let mut job = vec![in heap; 12, 0, 2, 0]?;
-        for [operation, junction, operand] in INSTRUCTIONS {
-            job.extend_from_slice(&[operation, junction, operand, 0, 0, 0])?;
+        for instruction in PROGRAM {
+            job.extend_from_slice(instruction.record().as_slice())?;
         }
         for claim in claims(levels) {
             job.extend_from_slice(claim.as_slice())?;

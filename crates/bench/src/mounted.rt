@@ -1,4 +1,4 @@
-ghost use Rattle.std.specs.Prelude.{◌≡◌, length, IfOk, string_bytes, is_ok};
+ghost use Rattle.std.specs.Prelude.{◌≡◌, IfOk, string_bytes, is_ok};
 ghost use Rattle.checker.specs.Faults.{mount_answer};
 ghost use Rattle.controller.specs.Of.{ready_state};
 ghost use Rattle.report.specs.Input.{level, each};
@@ -17,12 +17,11 @@ fn shown_text<L: Lattice>(
     mounted: &Result<(), MountFault>,
     ready: &Ready<L>,
     observer: u16,
-    buffer: &mut [u8],
 ) -> Result<String, AllocError>
-    requires { length buffer.old ≡ 160 }
     ensures { IfOk result (λ t. string_bytes t ≡ shown_text_of (L.Lattice.order ready.now.grades.lattice) (mount_answer mounted.now) (ready_state ready.now) observer) }
 {
-    let Ok(count) = ready.show(observer, buffer) else {
+    let mut buffer = [0; SHEET];
+    let Ok(count) = ready.show(observer, &mut buffer) else {
         return bad_input(heap);
     };
     let mut text = String::new(heap);
@@ -71,8 +70,7 @@ impl Reporter for Mounted {
         let mut ready = setup.seal();
         let mounted = ready.mount(input.job());
         set_all(&mut ready, input);
-        let mut buffer = [0; SHEET];
-        shown_text(heap, &mounted, &ready, input.observer(), &mut buffer)
+        shown_text(heap, &mounted, &ready, input.observer())
     }
 }
 

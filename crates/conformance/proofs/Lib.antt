@@ -1,4 +1,3 @@
 pub mod Walk
 pub mod Agreement
 pub mod Turn
-pub mod Appended

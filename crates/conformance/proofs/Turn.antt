@@ -3,7 +3,6 @@ use Rattle.std.proofs.Common.{◌≡◌, ℕ, suc, ◌+◌, ◌^◌, ◌<◌, Bo
 use Rattle.std.proofs.lemmas.Bool.{cond-true, cond-false}
 use Rattle.conformance.specs.Table.{Trial, next_case, cases}
 use Rattle.conformance.specs.Found.{Found, agrees, agreeing, first_differing, found, or_else, noted}
-use Rattle.conformance.proofs.Agreement.{agreeing_few}
 use Rattle.conformance.proofs.Walk.{was_some, cases_more, cases_few}
 
 -- What was found, with some cases more at the end.
@@ -46,15 +45,14 @@ onward_noted s trial trials false e =
     λ i. record { run = run i; agreed = counted i; differs = differs i }
 
 -- One case more is counted: what is to be found of all cases is the same.
-pub turn : (s next all : Found) (t rest : List ℕ) (trial : Trial) (agreed : Bool) → Some (trial, rest) ≡ next_case t → agreed ≡ agrees trial → next ≡ noted s trial agreed → onward s (cases t) ≡ all → onward next (cases rest) ≡ all
-turn s next all t rest trial agreed read test counted so_far =
+pub turn : (s next all : Found) (t rest : List ℕ) (trial : Trial) → Some (trial, rest) ≡ next_case t → next ≡ noted s trial (agrees trial) → onward s (cases t) ≡ all → onward next (cases rest) ≡ all
+turn s next all t rest trial read counted so_far =
     let was = was_some t trial rest read in
     let here : trial ∷ cases rest ≡ cases t = (λ i. was.1 i ∷ cases (was.2 i)) ∙ sym (cases_more t was.0) in
-    ap (λ n. onward n (cases rest)) counted ∙ onward_noted s trial (cases rest) agreed test ∙ ap (onward s) here ∙ so_far
+    ap (λ n. onward n (cases rest)) counted ∙ onward_noted s trial (cases rest) (agrees trial) refl ∙ ap (onward s) here ∙ so_far
 
 -- A count has room for one case more.
-pub room : (s : Found) (t rest : List ℕ) → length t < 2 ^ 64 → onward s (cases rest) ≡ found (cases t) → (s.run + 1 < 2 ^ 64) × (s.agreed + 1 < 2 ^ 64)
+pub room : (s : Found) (t rest : List ℕ) → length t < 2 ^ 64 → onward s (cases rest) ≡ found (cases t) → s.run + 1 < 2 ^ 64
 room s t rest long so_far =
     let run : s.run + length (cases rest) ≡ length (cases t) = ap (λ f. f.run) so_far in
-    let agreed : s.agreed + agreeing (cases rest) ≡ agreeing (cases t) = ap (λ f. f.agreed) so_far in
-    (omega (arith, cases_few t), omega (arith, cases_few t, agreeing_few (cases t)))
+    omega (arith, cases_few t)

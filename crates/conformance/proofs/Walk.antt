@@ -1,6 +1,6 @@
 -- A table, case by case. Assumes nothing.
-use Rattle.std.proofs.Common.{◌≡◌, ℕ, zero, suc, ◌+◌, ◌-◌, ◌*◌, ◌<◌, ◌≤◌, Bool, true, false, cond, List, [], ◌∷◌, length, take, drop, is_some, Some, None, sym, refl, ap, ◌∙◌, ap₂, ⊎_elim, arith, length-drop, drop-drop}
-use Rattle.std.proofs.lemmas.List.{take_rest}
+use Rattle.std.proofs.Common.{◌≡◌, ℕ, zero, suc, ◌+◌, ◌*◌, ◌<◌, ◌≤◌, Bool, true, false, cond, List, [], ◌∷◌, length, get_or, take, drop, is_some, Some, None, sym, refl, ap, ◌∙◌, ap₂, ⊎_elim, arith, length-drop, drop-drop}
+use Rattle.std.proofs.lemmas.List.{get_or-take}
 use Rattle.std.proofs.lemmas.Bool.{cases_Bool, false≢true, cond-true, cond-false, le-leb, lt-leb, leb-true}
 use Rattle.conformance.specs.Table.{Trial, input_length, expected_length, size, first_case, has_case, after_case, next_case, split_within, cases, left_over}
 
@@ -8,15 +8,22 @@ pub reads_none : (t : List ℕ) → length t < size t → None ≡ next_case t
 unfolding next_case
 reads_none t short = sym (cond-false (has_case t) (Some (first_case t, after_case t)) None (lt-leb (size t) (length t) short))
 
+-- The lengths stand in the first four bytes.
+pub input_read : (t lengths : List ℕ) (n : ℕ) → lengths ≡ take 4 t → n ≡ get_or lengths 0 0 + get_or lengths 1 0 * 256 → n ≡ input_length t
+input_read t lengths n front read = omega (arith, read, ap (λ f. get_or f 0 0) front, ap (λ f. get_or f 1 0) front, get_or-take 4 t 0 0 (omega arith), get_or-take 4 t 1 0 (omega arith))
+
+pub expected_read : (t lengths : List ℕ) (n : ℕ) → lengths ≡ take 4 t → n ≡ get_or lengths 2 0 + get_or lengths 3 0 * 256 → n ≡ expected_length t
+expected_read t lengths n front read = omega (arith, read, ap (λ f. get_or f 2 0) front, ap (λ f. get_or f 3 0) front, get_or-take 4 t 2 0 (omega arith), get_or-take 4 t 3 0 (omega arith))
+
 -- Two cuts behind the lengths give the first case and what comes after it.
-pub reads_whole : (t input expected middle rest : List ℕ) (n m : ℕ) → 4 ≤ length t → n ≡ input_length t → m ≡ expected_length t → n + m ≤ length t - 4 → input ≡ take n (take (length t - 4) (drop 4 t)) → middle ≡ drop n (take (length t - 4) (drop 4 t)) → expected ≡ take m middle → rest ≡ drop m middle → Some ((input, expected), rest) ≡ next_case t
+pub reads_whole : (t body input expected middle rest : List ℕ) (n m : ℕ) → size t ≤ length t → n ≡ input_length t → m ≡ expected_length t → body ≡ drop 4 t → input ≡ take n body → middle ≡ drop n body → expected ≡ take m middle → rest ≡ drop m middle → Some ((input, expected), rest) ≡ next_case t
 unfolding next_case
-reads_whole t input expected middle rest n m long is_n is_m within is_input is_middle is_expected is_rest =
-    let first : input ≡ take (input_length t) (drop 4 t) = is_input ∙ ap₂ take is_n (take_rest t 4) in
-    let seam : middle ≡ drop (4 + input_length t) t = is_middle ∙ ap₂ drop is_n (take_rest t 4) ∙ drop-drop (input_length t) 4 t in
+reads_whole t body input expected middle rest n m long is_n is_m is_body is_input is_middle is_expected is_rest =
+    let first : input ≡ take (input_length t) (drop 4 t) = is_input ∙ ap₂ take is_n is_body in
+    let seam : middle ≡ drop (4 + input_length t) t = is_middle ∙ ap₂ drop is_n is_body ∙ drop-drop (input_length t) 4 t in
     let second : expected ≡ take (expected_length t) (drop (4 + input_length t) t) = is_expected ∙ ap₂ take is_m seam in
     let last : rest ≡ after_case t = is_rest ∙ ap₂ drop is_m seam ∙ drop-drop (expected_length t) (4 + input_length t) t in
-    let whole : has_case t ≡ true = le-leb (size t) (length t) (omega (arith, is_n, is_m)) in
+    let whole : has_case t ≡ true = le-leb (size t) (length t) long in
     (λ i. Some ((first i, second i), last i)) ∙ sym (cond-true (has_case t) (Some (first_case t, after_case t)) None whole)
 
 none_not_some : {X : Type 0} {x : X} → None ≡ Some x → ⊥

@@ -6,22 +6,15 @@ mod tally;
 mod verdict;
 
 use crate::verdict::judge;
-use anyhow::anyhow;
+use anyhow::ensure;
 use std::fs;
 use std::io::Write;
 
-fn run(rt: &HostRuntime) -> anyhow::Result<()> {
-    let table = fs::read(rt, "cases.bin")?;
-    let verdict = judge(rt.alloc(), table.as_slice())?;
-    rt.stdout().write_all(verdict.text.as_slice())?;
-    if verdict.passed {
-        Ok(())
-    } else {
-        Err(anyhow!("the table did not pass"))
-    }
-}
-
 // Ends with status 1 where a case differs, the table is damaged or it cannot be read.
 fn main(rt: HostRuntime) -> anyhow::Result<()> {
-    run(&rt)
+    let table = fs::read(&rt, "cases.bin")?;
+    let verdict = judge(rt.alloc(), table.as_slice())?;
+    rt.stdout().write_all(verdict.text.as_slice())?;
+    ensure!(verdict.passed, "the table did not pass");
+    Ok(())
 }

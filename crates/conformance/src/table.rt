@@ -1,6 +1,10 @@
-ghost use Rattle.std.specs.Prelude.{◌≡◌};
+ghost use Rattle.std.specs.Prelude.{◌≡◌, IfOk};
 ghost use Rattle.conformance.specs.Table.{next_case};
-ghost use Rattle.conformance.specs.Of.{case_read};
+ghost use Rattle.conformance.specs.Found.{agrees};
+ghost use Rattle.conformance.specs.Of.{case_bytes, case_read};
+
+use report::report;
+use std::alloc::{AllocError, Global};
 
 // A bench input and the report that is expected of it.
 #[derive(Clone, Copy)]
@@ -9,19 +13,22 @@ pub struct Case<'a> {
     pub expected: &'a [u8],
 }
 
+impl Case<'_> {
+    // Whether the report on the input is the expected text, byte for byte.
+    pub fn agrees(&self, heap: Global) -> Result<bool, AllocError>
+        ensures { IfOk result (λ same. same ≡ agrees (case_bytes self.now)) }
+    {
+        let given = report(heap, self.input)?;
+        Ok(given.as_bytes() == self.expected)
+    }
+}
+
 // The first case of a table and the bytes after it; none where the table ends before the case does.
 pub fn next_case(table: &[u8]) -> Option<(Case<'_>, &[u8])>
     ensures { case_read result ≡ next_case table.now }
 {
-    let [i0, i1, e0, e1, rest @ ..] = table else {
-        return None;
-    };
-    let input = usize::from(u16::from_le_bytes([*i0, *i1]));
-    let expected = usize::from(u16::from_le_bytes([*e0, *e1]));
-    if rest.len() < input + expected {
-        return None;
-    }
-    let (input, rest) = rest.split_at(input);
-    let (expected, rest) = rest.split_at(expected);
+    let (&[i0, i1, e0, e1], rest) = table.split_first_chunk::<4>()?;
+    let (input, rest) = rest.split_at_checked(usize::from(u16::from_le_bytes([i0, i1])))?;
+    let (expected, rest) = rest.split_at_checked(usize::from(u16::from_le_bytes([e0, e1])))?;
     Some((Case { input, expected }, rest))
 }

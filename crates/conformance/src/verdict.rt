@@ -1,68 +1,73 @@
-ghost use Rattle.std.specs.Prelude.{◌≡◌, true, [], ◌++◌, IfOk, string_bytes, OnOk};
+ghost use Rattle.std.specs.Prelude.{◌≡◌, true, [], ◌++◌, IfOk, OnOk};
 ghost use Rattle.conformance.specs.Table.{cases, left_over};
 ghost use Rattle.conformance.specs.Found.{Conforms};
-ghost use Rattle.conformance.specs.Summary.{counts_text, shown_text, difference_text, left_text, summary as summary_of, passes};
-ghost use Rattle.conformance.specs.Of.{difference};
+ghost use Rattle.conformance.specs.Summary.{counts_text, shown_text, difference_text, left_text, summary_text, summary as summary_of, passes};
+ghost use Rattle.conformance.specs.Of.{difference, tally_found};
 
 use crate::table::Case;
-use crate::tally::count;
+use crate::tally::Tally;
 use report::report;
 use std::alloc::{AllocError, Global};
+use std::io;
+use std::io::Write;
 
 // Whether every case agreed with no byte left over, and the summary in words.
+// A flag and no enum: either verdict has a text, and both are printed alike.
 #[derive(Drop)]
 pub struct Verdict {
     pub passed: bool,
     pub text: Vec<u8>,
 }
 
-// How many cases were run and how many agreed.
-fn counts_text(heap: Global, run: usize, agreed: usize) -> Result<String, AllocError>
-    ensures { IfOk result (λ t. string_bytes t ≡ counts_text run agreed) }
+// Writes how many cases were run and how many agreed.
+fn write_counts(summary: &mut Vec<u8>, run: usize, agreed: usize) -> io::Result<()>
+    ensures { OnOk result (summary.new.items ≡ summary.old.items ++ counts_text run agreed) }
 {
-    format!(in heap; "{run} cases run\n{agreed} agreed\n")
+    write!(summary, "{run} cases run\n{agreed} agreed\n")
 }
 
-// Appends a text under its name and length.
-fn push_text(heap: Global, summary: &mut Vec<u8>, name: &str, text: &[u8]) -> Result<(), AllocError>
+// Writes a text under its name and length.
+fn write_text(summary: &mut Vec<u8>, name: &str, text: &[u8]) -> io::Result<()>
     ensures { OnOk result (summary.new.items ≡ summary.old.items ++ shown_text name.now text.now) }
 {
     let length = text.len();
-    let heading = format!(in heap; "{name}, {length} bytes:\n")?;
-    summary.extend_from_slice(heading.as_bytes())?;
-    summary.extend_from_slice(text)?;
-    Ok(())
+    writeln!(summary, "{name}, {length} bytes:")?;
+    summary.write_all(text)
 }
 
-// Appends the first case that differs: its number, the expected text and the given one.
-fn push_difference(
-    heap: Global,
-    summary: &mut Vec<u8>,
-    differs: Option<(usize, Case)>,
-) -> Result<(), AllocError>
+// Writes the first case that differs: its number, the expected text and the given one.
+fn write_difference(summary: &mut Vec<u8>, differs: Option<(usize, Case)>) -> io::Result<()>
     ensures { OnOk result (summary.new.items ≡ summary.old.items ++ difference_text (difference differs.entry)) }
 {
     let Some((number, case)) = differs else {
-        summary.extend_from_slice("none differs\n".as_bytes())?;
-        return Ok(());
+        return writeln!(summary, "none differs");
     };
-    let given = report(heap, case.input)?;
-    let line = format!(in heap; "first that differs: case {number}\n")?;
-    summary.extend_from_slice(line.as_bytes())?;
-    push_text(heap, summary, "expected", case.expected)?;
-    push_text(heap, summary, "given", given.as_bytes())?;
-    Ok(())
+    let given = report(*summary.allocator(), case.input)?;
+    writeln!(summary, "first that differs: case {number}")?;
+    write_text(summary, "expected", case.expected)?;
+    write_text(summary, "given", given.as_bytes())
 }
 
-// The line of a damaged table, which ends in the middle of a case; empty where no byte is left over.
-fn left_line(heap: Global, left: usize) -> Result<String, AllocError>
-    ensures { IfOk result (λ t. string_bytes t ≡ left_text left) }
+// Writes the line of a damaged table, which ends in the middle of a case; none where no byte is left over.
+fn write_left(summary: &mut Vec<u8>, left: usize) -> io::Result<()>
+    ensures { OnOk result (summary.new.items ≡ summary.old.items ++ left_text left) }
 {
     if left == 0 {
-        Ok(String::new(heap))
-    } else {
-        format!(in heap; "damaged table: {left} bytes after the last whole case\n")
+        return Ok(());
     }
+    writeln!(
+        summary,
+        "damaged table: {left} bytes after the last whole case"
+    )
+}
+
+// Writes the summary of what a run over a table found.
+fn write_summary(summary: &mut Vec<u8>, tally: &Tally) -> io::Result<()>
+    ensures { OnOk result (summary.new.items ≡ summary.old.items ++ summary_text (tally_found tally.now) tally.now.left) }
+{
+    write_counts(summary, tally.run, tally.agreed)?;
+    write_difference(summary, tally.differs)?;
+    write_left(summary, tally.left)
 }
 
 // The verdict on a table: every case is run, and the first that differs is shown.
@@ -71,12 +76,10 @@ pub fn judge(heap: Global, table: &[u8]) -> Result<Verdict, AllocError>
     ensures conforms { IfOk result (λ v. (v.passed ≡ true → Conforms (cases table.now) × (left_over table.now ≡ []))) }
     ensures text { IfOk result (λ v. v.text.items ≡ summary_of table.now) }
 {
-    let tally = count(heap, table)?;
-    let counts = counts_text(heap, tally.run, tally.agreed)?;
-    let mut text = Vec::from_slice(heap, counts.as_bytes())?;
-    push_difference(heap, &mut text, tally.differs)?;
-    let left = left_line(heap, tally.left)?;
-    text.extend_from_slice(left.as_bytes())?;
+    let tally = Tally::count(heap, table)?;
+    let mut text = Vec::new(heap);
+    // What is written to memory fails only where memory is not found.
+    write_summary(&mut text, &tally).map_err(|_| AllocError)?;
     Ok(Verdict {
         passed: tally.is_clean(),
         text,

@@ -91,7 +91,7 @@ mod tests {
         job[0] = 128;
         job[2] = 8;
         assert_eq!(rt; answer(job.as_slice()), (8, 0));
-        let _ = job.push(0);
+        job.push(0)?;
         assert_eq!(rt; answer(job.as_slice()), (7, 0));
         Ok(())
     }

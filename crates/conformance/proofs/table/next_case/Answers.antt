@@ -1,22 +1,34 @@
-use Rattle.std.proofs.Common.{◌≡◌, ◌+◌, ◌-◌, ◌≤◌, length, take, drop, ap, ◌∙◌, arith, length-drop}
-use Rattle.std.proofs.lemmas.List.{take_rest}
-use Rattle.std.proofs.lemmas.Bool.{ltb-true, ltb-false}
-use Rattle.conformance.proofs.Walk.{reads_none, reads_whole}
+use Rattle.std.proofs.Common.{◌≤◌, length, ◌∙◌, arith}
+use Rattle.conformance.specs.Table.{size}
+use Rattle.conformance.proofs.Walk.{reads_none, input_read, expected_read, reads_whole}
 use Rattle.conformance.proofs.table.next_case.Goals as goal
 
-pub returns-in_default : goal.returns-in_default
-returns-in_default c = reads_none c.args.table.now (omega (arith, ltb-true))
+pub returns-in_err-i0 : goal.returns-in_err-i0
+returns-in_err-i0 c = rw c.from_residual.ensures (reads_none c.args.table.now (omega (arith, c.in_err-i0.ensures.cases)))
 
-pub returns-then-rest-input : goal.returns-then-rest-input
-returns-then-rest-input c =
+pub returns-in_err-input : goal.returns-in_err-input
+returns-in_err-input c =
     let table = c.args.table.now in
-    let rest : length (take (length table - 4) (drop 4 table)) ≡ length table - 4 = ap length (take_rest table 4) ∙ length-drop 4 table in
-    reads_none table (omega (arith, ltb-false))
+    let front = c.in_ok-i0.ensures.cases in
+    let n = input_read table _ _ front.0 (c.from.ensures ∙ c.from_le_bytes.ensures) in
+    rw c.from_residual-in_err-input.ensures (reads_none table (omega (arith, front.2, n, c.in_err-input.ensures.cases)))
+
+pub returns-in_err-expected : goal.returns-in_err-expected
+returns-in_err-expected c =
+    let table = c.args.table.now in
+    let front = c.in_ok-i0.ensures.cases in
+    let n = input_read table _ _ front.0 (c.from.ensures ∙ c.from_le_bytes.ensures) in
+    let m = expected_read table _ _ front.0 (c.from-2.ensures ∙ c.from_le_bytes-2.ensures) in
+    rw c.from_residual-in_err-expected.ensures
+    (reads_none table (omega (arith, front.2, n, m, c.in_ok-input.ensures.cases, c.in_err-expected.ensures.cases)))
 
 pub returns : goal.returns
 returns c =
     let table = c.args.table.now in
-    let long : 4 ≤ length table = omega (arith, ltb-false) in
-    let rest : length (take (length table - 4) (drop 4 table)) ≡ length table - 4 = ap length (take_rest table 4) ∙ length-drop 4 table in
-    let within : c.from-input.result + c.from-expected.result ≤ length table - 4 = omega arith in
-    reads_whole table _ _ _ _ _ _ long (c.from-input.ensures ∙ c.from_le_bytes.ensures) (c.from-expected.ensures ∙ c.from_le_bytes-2.ensures) within c.split_at.ensures.front c.split_at.ensures.back c.split_at-2.ensures.front c.split_at-2.ensures.back
+    let front = c.in_ok-i0.ensures.cases in
+    let cut = c.in_ok-input.ensures.cases in
+    let last = c.in_ok-expected.ensures.cases in
+    let n = input_read table _ _ front.0 (c.from.ensures ∙ c.from_le_bytes.ensures) in
+    let m = expected_read table _ _ front.0 (c.from-2.ensures ∙ c.from_le_bytes-2.ensures) in
+    let long : size table ≤ length table = omega (arith, front.2, n, m, cut, last) in
+    reads_whole table _ _ _ _ _ _ _ long n m front.1 cut.1 cut.2 last.1 last.2

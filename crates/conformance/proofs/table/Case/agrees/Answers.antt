@@ -1,10 +1,10 @@
 use Rattle.std.proofs.Common.{ap, ◌∙◌}
 use Rattle.std.specs.Str.{bytes_eq}
 use Rattle.conformance.specs.Found.{agrees}
-use Rattle.conformance.proofs.tally.agrees.Goals as goal
+use Rattle.conformance.proofs.table.Case.agrees.Goals as goal
 
 pub returns : goal.returns
 unfolding agrees
 returns c =
     let given = c.as_bytes.ensures.value ∙ c.in_ok-given.ensures in
-    c.eq.ensures ∙ ap (λ text. bytes_eq text c.args.case.now.expected.now) given
+    c.eq.ensures ∙ ap (λ text. bytes_eq text c.args.self.now.expected.now) given

@@ -3,12 +3,10 @@ use Rattle.conformance.specs.Table.{after_case, left_over}
 use Rattle.conformance.specs.Of.{tally_found, case_bytes}
 use Rattle.conformance.proofs.Walk.{was_some, was_none, after_shorter, cases_none, left_more, left_none}
 use Rattle.conformance.proofs.Turn.{onward, turn, room, onward_first, onward_none}
-use Rattle.conformance.proofs.tally.count.Goals as goal
+use Rattle.conformance.proofs.tally.Tally.count.Goals as goal
 
 pub note-requires : goal.note-requires
-note-requires c =
-    let told = room (tally_found c.loop-case.tally) c.args.table.now c.loop-case.rest.now (omega arith) c.loop-case.invariant.0 in
-    record { run = told.0; agreed = told.1 }
+note-requires c = room (tally_found c.loop-case.tally) c.args.table.now c.loop-case.rest.now (omega arith) c.loop-case.invariant.0
 
 pub loop-case-smaller : goal.loop-case-smaller
 loop-case-smaller c =
@@ -25,7 +23,7 @@ loop-case-preserved c =
     let trial = case_bytes c.in-Some.case in
     let was = was_some c.loop-case.rest.now trial c.in-Some.after.now c.in-Some.ensures in
     let left = ap left_over was.2 ∙ sym (left_more c.loop-case.rest.now was.0) in
-    (turn (tally_found c.loop-case.tally) (tally_found c.note.new.self) _ c.loop-case.rest.now c.in-Some.after.now trial c.in_ok-agreed.agreed c.in-Some.ensures c.in_ok-agreed.ensures c.note.ensures c.loop-case.invariant.0, left ∙ c.loop-case.invariant.1)
+    (turn (tally_found c.loop-case.tally) (tally_found c.note.new.self) _ c.loop-case.rest.now c.in-Some.after.now trial c.in-Some.ensures c.in_ok-note.ensures c.loop-case.invariant.0, left ∙ c.loop-case.invariant.1)
 
 pub returns : goal.returns
 returns c =

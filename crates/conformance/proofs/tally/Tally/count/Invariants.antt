@@ -3,7 +3,7 @@ use Rattle.conformance.specs.Table.{cases, left_over}
 use Rattle.conformance.specs.Found.{found}
 use Rattle.conformance.specs.Of.{tally_found}
 use Rattle.conformance.proofs.Turn.{onward}
-use Rattle.conformance.proofs.tally.count.Given as goal
+use Rattle.conformance.proofs.tally.Tally.count.Given as goal
 
 -- Without the cases still to come, nothing ties what was counted to the whole table.
 abbrev pub invariant-loop-case : goal.invariant-loop-case
