@@ -27,6 +27,7 @@ fn decode(job: &Job) -> Result<Program, MountFault>
         let instruction = job
             .instruction(label)
             .map_err(|fault| MountFault::Record(fault, label))?;
+        // There are at most 128 labels, so there is room.
         let _ = program.add(instruction);
     }
     Ok(program)

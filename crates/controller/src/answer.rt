@@ -23,7 +23,7 @@ impl Sheet {
 }
 
 // What a call in a list answers.
-#[derive(Drop)]
+#[derive(Debug, PartialEq, Eq, Drop)]
 pub enum Answer {
     Graded(Result<(), Refusal>),
     Sealed,

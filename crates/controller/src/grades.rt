@@ -3,7 +3,8 @@ ghost use Rattle.std.specs.Prelude.{◌≡◌, ◌<◌, count_by, length, slice_
 use crate::VARIABLES;
 use lattice::Lattice;
 
-// A lattice, and the level of each variable.
+// A lattice, and the level of each variable. That the lattice stays is a clause of each call: no type says what a call
+// leaves as it was.
 #[derive(Drop)]
 pub struct Grades<L> {
     pub(crate) lattice: L,
@@ -19,6 +20,7 @@ impl<L: Lattice> Grades<L> {
     {
         self.lattice.at_most(self.levels[variable], observer)
     }
+
     // How many variables are open to an observer.
     pub(crate) fn count_open(&self, observer: u16) -> usize
         ensures { result ≡ count_by (λ level. (L.Lattice.order self.now.lattice).at_most level observer) self.now.levels }

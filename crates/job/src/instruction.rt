@@ -19,6 +19,7 @@ fn instruction_in(exit: u8, record: &[u8]) -> Result<Instruction, RecordFault>
     let variable = 0 <= operand && operand < 32;
     let label = 0 <= operand && operand <= i32::from(exit);
     let joins = *junction <= exit;
+    // The format's numbers are told apart here alone. A number by itself is no kind: what stands beside it has to fit.
     match *operation {
         1 if plain && variable => Ok(Instruction::Load(operand as u8)),
         2 if plain && variable => Ok(Instruction::Store(operand as u8)),

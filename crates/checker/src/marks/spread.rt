@@ -5,6 +5,7 @@ ghost use Rattle.checker.specs.Region.{next_labels, mark_all, spread_below, regi
 use super::{LABELS, Marks, ROUNDS};
 use push::Program;
 
+// Program and junction are passed on: as fields of the marks, each call that marks would have to say that they stay.
 impl Marks {
     fn none() -> Self
         ensures { result.at ≡ replicate 129 false }
