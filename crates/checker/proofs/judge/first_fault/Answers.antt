@@ -1,4 +1,4 @@
-use Rattle.std.proofs.Common.{◌≡◌, refl, sym, ◌∙◌, arith}
+use Rattle.std.proofs.Common.{refl, ◌∙◌, arith}
 use Rattle.std.proofs.lemmas.Result.{err_from_is_err_and}
 use Rattle.checker.proofs.FirstFacts.{first_none, first_more, first_found, was_kept, was_broken, fault_is_some}
 use Rattle.checker.proofs.judge.first_fault.Goals as goal
@@ -19,9 +19,3 @@ returns-in_err-fault_at g c =
     let broken = was_broken (rule n) n _ (fault_is_some _) (by_rule n _ (omega arith) c.in_err-fault_at.ensures) in
     let p = err_from_is_err_and c.from_residual.result c.from_residual.ensures.1 in
     rw (p.1, p.2) (broken.1 ∙ first_found rule n c.args.end (rule n) (c.loop-label.invariant rule by_rule) refl broken.0 (omega arith))
-
-pub returns : goal.returns
-returns g c =
-    λ rule by_rule.
-    let all : c.loop-label.label ≡ c.args.end = omega arith in
-    sym (rw all at c.loop-label.invariant rule by_rule)

@@ -1,6 +1,5 @@
-use Rattle.std.proofs.Common.{◌≡◌, length, sym, ap, ◌∙◌, arith}
+use Rattle.std.proofs.Common.{sym, ap, ◌∙◌}
 use Rattle.push.specs.Code.{code}
-use Rattle.checker.specs.Region.{spread_below}
 use Rattle.checker.proofs.RegionFacts.{spread_none, spread_marked, spread_unmarked}
 use Rattle.checker.proofs.marks.Marks.spread.Goals as goal
 use Rattle.checker.proofs.marks.Marks.spread.Goals.{then-has, else-has}
@@ -20,8 +19,3 @@ loop-label-preserved c =
           ∙ spread_marked is j start c.loop-label.label so_far c.loop-label.invariant (sym w.if-has.ensures)
       | else-has w ↦ ap (λ m. m.at) w.self-is ∙ spread_unmarked is j start c.loop-label.label so_far c.loop-label.invariant (sym w.if-has.ensures)
     ]
-
-pub returns : goal.returns
-returns c =
-    let all : c.loop-label.label ≡ length (code c.args.program.now) = omega (arith, c.len-label-end.ensures) in
-    c.loop-label.invariant ∙ ap (λ n. spread_below (code c.args.program.now) c.args.junction n c.args.self.now.at) all
