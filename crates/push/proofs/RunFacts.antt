@@ -78,12 +78,6 @@ module _ (code : List Instruction) where
           ∙ sym (so_far ∙ ap (counted k) (ends (eqb (label_of m) (length code)) refl stuck) ∙ (λ i. (nothing_more i, record { status = cond (eqb (label_of m) (length code)) Halted Faulted; machine = m })))
       by (Some o) made e = absurd (false≢true (ap (λ p. p.0) e))
 
-  -- a going run that stands at the exit
-  pub going_at_exit : (k : ℕ) (r : RunState) → 0 < k → r.status ≡ Going → label_of r.machine ≡ length code → run code k r ≡ (0, record { status = Faulted; machine = r.machine })
-  going_at_exit k r some going exit =
-      let more : k ≡ suc (k - 1) = omega arith in
-      ap (λ c. run code c r) more ∙ made_none (k - 1) r (record { status = Faulted; machine = r.machine }) (ap (λ s. one code s r.machine) going ∙ ap (tried code r.machine) (no_step_at_exit r.machine exit))
-
   -- the budget is used up
   pub run_over : (total : ℕ × RunState) (k left budget : ℕ) (r : RunState) → k ≡ budget → left ≡ 0 → total ≡ counted k (run code left r) → (budget, r) ≡ total
   run_over total k left budget r all over so_far =

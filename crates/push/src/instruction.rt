@@ -4,7 +4,7 @@ ghost use Rattle.push.specs.Language.{pops as pops_of, pushes as pushes_of, fall
 use crate::kind::Kind;
 
 // An instruction. Of a mounted job its variable is 0 to 31 and its labels are 0 to the exit; a program may hold others.
-#[derive(Clone, Copy)]
+#[derive(Clone, Copy, PartialEq, Eq, Debug)]
 pub enum Instruction {
     // Pushes a variable.
     Load(u8),
@@ -45,11 +45,7 @@ impl Instruction {
         ensures value { result ≡ length (pops_of self) }
         ensures bound { result ≤ 2 }
     {
-        match self {
-            Instruction::Load(_) | Instruction::Push(_) | Instruction::Goto(_) => 0,
-            Instruction::Store(_) | Instruction::Not | Instruction::GotoF { .. } => 1,
-            Instruction::Add | Instruction::Sub | Instruction::Eq | Instruction::Less => 2,
-        }
+        self.pops().len() as u16
     }
 
     // The kind that it pushes, if it pushes.
@@ -68,10 +64,7 @@ impl Instruction {
     pub fn falls_through(self) -> bool
         ensures { result ≡ falls_through self }
     {
-        match self {
-            Instruction::Goto(_) => false,
-            _ => true,
-        }
+        !matches!(self, Instruction::Goto(_))
     }
 
     // The label that it can jump to.

@@ -1,7 +1,6 @@
 // PUSH, a small stack language: its instructions, the kinds of its values, programs, and runs of them.
 #![tactic(auto)]
 
-mod arithmetic;
 mod instruction;
 mod kind;
 mod program;

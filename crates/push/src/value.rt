@@ -1,5 +1,5 @@
 // A place of the stack.
-#[derive(Clone, Copy)]
+#[derive(Clone, Copy, PartialEq, Eq, Debug)]
 pub enum Value {
     Int(i32),
     Flag(bool),

@@ -1,4 +1,5 @@
 ghost use Rattle.std.specs.Prelude.{◌≡◌, ◌<◌, true, false, [], ◌∷◌, ◌++◌, length, is_ok, is_some, if◌then◌else◌, Some, None, nat_lt};
+ghost use Rattle.std.specs.Option.{option_copied};
 ghost use Rattle.push.specs.Code.{code, fetch as fetch_of};
 
 use super::{Program, ProgramFull};
@@ -45,14 +46,11 @@ impl Program {
     }
 
     // The same, lent and not copied: a step then reads no more of it than it needs.
+    #[tactic(auto, using(crate::proofs::Fetches::fetch_is_item))]
     pub(crate) fn look(&self, label: usize) -> Option<&Instruction>
-        ensures value { elim result [ Some i ↦ fetch_of (code self.now) label ≡ Some i.now | None ↦ fetch_of (code self.now) label ≡ None ] }
+        ensures value { option_copied result ≡ fetch_of (code self.now) label }
         ensures within { is_some result ≡ true → label < 128 }
     {
-        if label < self.len {
-            Some(&self.table[label])
-        } else {
-            None
-        }
+        self.table[..self.len].get(label)
     }
 }

@@ -1,14 +1,12 @@
-ghost use Rattle.std.specs.Prelude.{◌≡◌, length, if◌then◌else◌, nat_eq};
-ghost use Rattle.push.specs.declared.status.Status.TheVariants.{Going, Halted};
+ghost use Rattle.std.specs.Prelude.{◌≡◌};
 ghost use Rattle.push.specs.Code.{code};
 ghost use Rattle.push.specs.Machine.{StepFollowsTheRules};
-ghost use Rattle.push.specs.Run.{arrived, begun, run, Advanced, NewRunsAreTrue};
-ghost use Rattle.push.specs.Of.{machine_of, run_state};
+ghost use Rattle.push.specs.Run.{begun, run, Advanced, NewRunsAreTrue};
+ghost use Rattle.push.specs.Of.{run_state};
 
-use super::Run;
+use super::{Run, State};
 use crate::VARIABLES;
 use crate::program::Program;
-use crate::stack::Stack;
 use crate::status::Status;
 
 impl Run {
@@ -25,62 +23,22 @@ impl Run {
         Run {
             program,
             status,
-            label: 0,
-            stack: Stack::empty(),
-            values,
+            state: State::new(values),
         }
-    }
-
-    // Halted at the exit, and otherwise what is passed.
-    fn status_unless_at_exit(&self, otherwise: Status) -> Status
-        ensures { result ≡ (if nat_eq self.now.label (length (code self.now.program)) then Halted else otherwise) }
-    {
-        if self.label == self.program.len() {
-            Status::Halted
-        } else {
-            otherwise
-        }
-    }
-
-    // Makes steps from a label that is not the exit. The status is settled once, where they end.
-    fn steps_to_the_end(&mut self, budget: u32) -> u32
-        requires { (run_state self.old ≡ arrived (code self.old.program) (machine_of self.old)) × (self.old.status ≡ Going) }
-        ensures run { (result, run_state self.new) ≡ run (code self.old.program) budget (run_state self.old) }
-        ensures same_program { self.new.program ≡ self.old.program }
-    {
-        for steps in 0..budget {
-            if !self.step() {
-                self.status = self.status_unless_at_exit(Status::Faulted);
-                return steps;
-            }
-        }
-        self.status = self.status_unless_at_exit(Status::Going);
-        budget
-    }
-
-    // Makes the steps of a run that is going.
-    fn going_steps(&mut self, budget: u32) -> u32
-        requires { self.old.status ≡ Going }
-        ensures run { (result, run_state self.new) ≡ run (code self.old.program) budget (run_state self.old) }
-        ensures same_program { self.new.program ≡ self.old.program }
-    {
-        if budget == 0 {
-            return 0;
-        }
-        if self.label == self.program.len() {
-            self.status = Status::Faulted;
-            return 0;
-        }
-        self.steps_to_the_end(budget)
     }
 
     // Makes steps until the run stops or so many are made, and answers how many.
+    #[tactic(auto, using(crate::proofs::RunFacts::run_stopped))]
     fn make_steps(&mut self, budget: u32) -> u32
         ensures run { (result, run_state self.new) ≡ run (code self.old.program) budget (run_state self.old) }
         ensures same_program { self.new.program ≡ self.old.program }
     {
         match self.status {
-            Status::Going => self.going_steps(budget),
+            Status::Going => {
+                let (status, steps) = self.state.steps(&self.program, budget);
+                self.status = status;
+                steps
+            }
             Status::Halted | Status::Faulted => 0,
         }
     }
@@ -100,13 +58,12 @@ impl Run {
 
     // The status, the program and the values that the run leaves.
     pub fn finish(self) -> (Status, Program, [i32; VARIABLES])
-        ensures { result ≡ (self.status, self.program, self.values) }
+        ensures { result ≡ (self.status, self.program, self.state.values) }
     {
         let Run {
             status,
             program,
-            values,
-            ..
+            state: State { values, .. },
         } = self;
         (status, program, values)
     }

@@ -1,151 +1,169 @@
-ghost use Rattle.std.specs.Prelude.{◌≡◌, ◌+◌, ◌<◌, ◌≤◌, true, ◌∷◌, length, drop, Some, None};
-ghost use Rattle.push.specs.declared.value.Value.TheVariants.{Int};
-ghost use Rattle.push.specs.declared.status.Status.TheVariants.{Going};
+ghost use Rattle.std.specs.Prelude.{◌≡◌, ◌+◌, ◌<◌, ◌≤◌, [], ◌∷◌, length, drop, is_some, Some, MatchOption, nat_eq, if◌then◌else◌};
+ghost use Rattle.push.specs.declared.status.Status.TheVariants.{Halted};
 ghost use Rattle.push.specs.Code.{code};
-ghost use Rattle.push.specs.Machine.{at, step as step_of_lem, pushed, loaded, stored, branched, integer_on, flag_on};
-ghost use Rattle.push.specs.Run.{moved};
+ghost use Rattle.push.specs.Machine.{at, step as step_of, pushed, loaded, stored, turned, branched, integers_on, integer_on, flag_on};
+ghost use Rattle.push.specs.Run.{moved, arrived, run, is_halted};
 ghost use Rattle.push.specs.Of.{held, machine_of};
 
-use super::Run;
+use super::State;
 use crate::VARIABLES;
-use crate::arithmetic::{difference, equal, less, sum};
 use crate::instruction::Instruction;
+use crate::program::Program;
+use crate::stack::Stack;
 use crate::status::Status;
 use crate::value::Value;
 
-impl Run {
-    // Makes the step that the instruction at the label asks for. False where none is made. The status is left to the caller.
-    pub(crate) fn step(&mut self) -> bool
-        requires { self.old.status ≡ Going }
-        ensures run { (result, machine_of self.new) ≡ moved (machine_of self.old) (step_of_lem (code self.old.program) (machine_of self.old)) }
-        ensures same_program { self.new.program ≡ self.old.program }
-        ensures same_status { self.new.status ≡ self.old.status }
+impl State {
+    // At label 0, with an empty stack.
+    pub(super) fn new(values: [i32; VARIABLES]) -> Self
+        ensures { machine_of result ≡ at 0 [] values }
     {
-        match (self.status, self.program.look(self.label)) {
-            (Status::Going, Some(&Instruction::Load(variable))) => self.load(variable),
-            (Status::Going, Some(&Instruction::Store(variable))) => self.store(variable),
-            (Status::Going, Some(&Instruction::Push(number))) => self.push(Value::Int(number)),
-            (Status::Going, Some(&Instruction::Add)) => match self.stack.integers() {
-                Some((u, t)) => self.put(2, Value::Int(sum(u, t))),
-                None => self.fault(),
-            },
-            (Status::Going, Some(&Instruction::Sub)) => match self.stack.integers() {
-                Some((u, t)) => self.put(2, Value::Int(difference(u, t))),
-                None => self.fault(),
-            },
-            (Status::Going, Some(&Instruction::Eq)) => match self.stack.integers() {
-                Some((u, t)) => self.put(2, Value::Flag(equal(u, t))),
-                None => self.fault(),
-            },
-            (Status::Going, Some(&Instruction::Less)) => match self.stack.integers() {
-                Some((u, t)) => self.put(2, Value::Flag(less(u, t))),
-                None => self.fault(),
-            },
-            (Status::Going, Some(&Instruction::Not)) => match self.stack.flag() {
-                Some(flag) => self.put(1, Value::Flag(!flag)),
-                None => self.fault(),
-            },
-            (Status::Going, Some(&Instruction::Goto(target))) => self.go(usize::from(target)),
-            (Status::Going, Some(&Instruction::GotoF { target, .. })) => self.branch(target),
-            (Status::Going, None) => self.fault(),
-            (Status::Halted | Status::Faulted, _) => false,
+        State {
+            label: 0,
+            stack: Stack::empty(),
+            values,
         }
     }
 
-    // No rule applies.
-    fn fault(&mut self) -> bool
-        ensures run { (result, machine_of self.new) ≡ moved (machine_of self.old) None }
-        ensures same_program { self.new.program ≡ self.old.program }
-        ensures same_status { self.new.status ≡ self.old.status }
+    // Makes steps until none can be made or so many are made, and answers the status then and how many.
+    pub(super) fn steps(&mut self, program: &Program, budget: u32) -> (Status, u32)
+        ensures status { is_halted result.0 ≡ nat_eq self.new.label (length (code program.now)) }
+        ensures run { (result.1, record { status = result.0; machine = machine_of self.new }) ≡ run (code program.now) budget (arrived (code program.now) (machine_of self.old)) }
     {
-        false
+        for steps in 0..budget {
+            if self.step(program).is_none() {
+                return (self.status_unless_at_exit(program, Status::Faulted), steps);
+            }
+        }
+        (self.status_unless_at_exit(program, Status::Going), budget)
+    }
+
+    // Halted at the exit, and otherwise what is passed.
+    fn status_unless_at_exit(&self, program: &Program, otherwise: Status) -> Status
+        ensures { result ≡ (if nat_eq self.now.label (length (code program.now)) then Halted else otherwise) }
+    {
+        if self.label == program.len() {
+            Status::Halted
+        } else {
+            otherwise
+        }
+    }
+
+    // Makes the step that the instruction at the label asks for. None, and nothing changed, where no rule applies.
+    fn step(&mut self, program: &Program) -> Option<()>
+        ensures { (is_some result, machine_of self.new) ≡ moved (machine_of self.old) (step_of (code program.now) (machine_of self.old)) }
+    {
+        match *program.look(self.label)? {
+            Instruction::Load(variable) => self.load(variable),
+            Instruction::Store(variable) => self.store(variable),
+            Instruction::Push(number) => self.push(Value::Int(number)),
+            Instruction::Add => self.combine(|u, t| Value::Int(u.wrapping_add(t))),
+            Instruction::Sub => self.combine(|u, t| Value::Int(u.wrapping_sub(t))),
+            Instruction::Eq => self.combine(|u, t| Value::Flag(u == t)),
+            Instruction::Less => self.combine(|u, t| Value::Flag(u < t)),
+            Instruction::Not => self.turn(),
+            Instruction::Goto(target) => self.go(usize::from(target)),
+            Instruction::GotoF { target, .. } => self.branch(target),
+        }
     }
 
     // Comes to a label.
-    fn go(&mut self, label: usize) -> bool
-        ensures run { (result, machine_of self.new) ≡ moved (machine_of self.old) (Some (at label (held self.old.stack) self.old.values)) }
-        ensures same_program { self.new.program ≡ self.old.program }
-        ensures same_status { self.new.status ≡ self.old.status }
+    fn go(&mut self, label: usize) -> Option<()>
+        ensures { (is_some result, machine_of self.new) ≡ moved (machine_of self.old) (Some (at label (held self.old.stack) self.old.values)) }
     {
         self.label = label;
-        true
+        Some(())
     }
 
     // Goes on to the next label with a value in place of so many popped ones.
-    fn put(&mut self, popped: usize, value: Value) -> bool
+    fn put(&mut self, popped: usize, value: Value) -> Option<()>
         requires { (self.old.label < 128) × ((popped ≤ length (held self.old.stack)) × (length (held self.old.stack) < 8 + popped)) }
-        ensures run { (result, machine_of self.new) ≡ moved (machine_of self.old) (Some (at (self.old.label + 1) (value ∷ drop popped (held self.old.stack)) self.old.values)) }
-        ensures same_program { self.new.program ≡ self.old.program }
-        ensures same_status { self.new.status ≡ self.old.status }
+        ensures { (is_some result, machine_of self.new) ≡ moved (machine_of self.old) (Some (at (self.old.label + 1) (value ∷ drop popped (held self.old.stack)) self.old.values)) }
     {
+        // The label first: after the stack, the compiler joins the ways to the next step, and the nest takes a fifth longer.
+        self.label += 1;
         self.stack.put(popped, value);
-        self.go(self.label + 1)
+        Some(())
     }
 
-    fn push(&mut self, value: Value) -> bool
+    // Pushes a value, where a place is free.
+    fn push(&mut self, value: Value) -> Option<()>
         requires { self.old.label < 128 }
-        ensures run { (result, machine_of self.new) ≡ moved (machine_of self.old) (pushed value self.old.label (held self.old.stack) self.old.values) }
-        ensures same_program { self.new.program ≡ self.old.program }
-        ensures same_status { self.new.status ≡ self.old.status }
+        ensures { (is_some result, machine_of self.new) ≡ moved (machine_of self.old) (pushed value self.old.label (held self.old.stack) self.old.values) }
     {
-        if self.stack.has_room() {
-            self.put(0, value)
-        } else {
-            self.fault()
+        if !self.stack.has_room() {
+            return None;
         }
+        self.put(0, value)
     }
 
-    fn load(&mut self, variable: u8) -> bool
+    // Pushes a variable.
+    fn load(&mut self, variable: u8) -> Option<()>
         requires { self.old.label < 128 }
-        ensures run { (result, machine_of self.new) ≡ moved (machine_of self.old) (loaded variable self.old.label (held self.old.stack) self.old.values) }
-        ensures same_program { self.new.program ≡ self.old.program }
-        ensures same_status { self.new.status ≡ self.old.status }
+        ensures { (is_some result, machine_of self.new) ≡ moved (machine_of self.old) (loaded variable self.old.label (held self.old.stack) self.old.values) }
     {
-        let index = usize::from(variable);
-        if index >= VARIABLES {
-            return self.fault();
-        }
-        self.push(Value::Int(self.values[index]))
+        let number = *self.values.get(usize::from(variable))?;
+        self.push(Value::Int(number))
     }
 
-    fn store(&mut self, variable: u8) -> bool
+    // Pops the integer on top into a variable.
+    fn store(&mut self, variable: u8) -> Option<()>
         requires { self.old.label < 128 }
-        ensures run { (result, machine_of self.new) ≡ moved (machine_of self.old) (stored variable (integer_on (held self.old.stack)) self.old.label (held self.old.stack) self.old.values) }
-        ensures same_program { self.new.program ≡ self.old.program }
-        ensures same_status { self.new.status ≡ self.old.status }
+        ensures { (is_some result, machine_of self.new) ≡ moved (machine_of self.old) (stored variable (integer_on (held self.old.stack)) self.old.label (held self.old.stack) self.old.values) }
     {
         let index = usize::from(variable);
+        let &[Value::Int(number), ..] = self.stack.places() else {
+            return None;
+        };
         if index >= VARIABLES {
-            return self.fault();
+            return None;
         }
-        match self.stack.integer() {
-            Some(t) => {
-                self.values[index] = t;
-                self.stack.pop();
-                self.go(self.label + 1)
-            }
-            None => self.fault(),
-        }
+        // Tried: of what is written through get_mut a proof knows the length alone.
+        self.values[index] = number;
+        self.label += 1;
+        self.stack.pop();
+        Some(())
+    }
+
+    // Puts what is made of the integers u and t in their place, where t is on top and u under it.
+    fn combine<F: Fn(i32, i32) -> Value>(&mut self, make: F) -> Option<()>
+        requires label { self.old.label < 128 }
+        requires callable { F.IsAlwaysCallable make }
+        ensures { MatchOption (integers_on (held self.old.stack))
+            ((is_some result, machine_of self.new) ≡ moved (machine_of self.old) None)
+            (λ p. (v : Value) × F.post make p.0 p.1 v × ((is_some result, machine_of self.new) ≡ moved (machine_of self.old) (Some (at (self.old.label + 1) (v ∷ drop 2 (held self.old.stack)) self.old.values)))) }
+    {
+        let &[Value::Int(t), Value::Int(u), ..] = self.stack.places() else {
+            return None;
+        };
+        self.put(2, make(u, t))
+    }
+
+    // Puts the boolean that the one on top is not in its place.
+    fn turn(&mut self) -> Option<()>
+        requires { self.old.label < 128 }
+        ensures { (is_some result, machine_of self.new) ≡ moved (machine_of self.old) (turned (flag_on (held self.old.stack)) self.old.label (held self.old.stack) self.old.values) }
+    {
+        let &[Value::Flag(flag), ..] = self.stack.places() else {
+            return None;
+        };
+        self.put(1, Value::Flag(!flag))
     }
 
     // Goes to the target where the boolean on top is false.
-    fn branch(&mut self, target: u8) -> bool
+    fn branch(&mut self, target: u8) -> Option<()>
         requires { self.old.label < 128 }
-        ensures run { (result, machine_of self.new) ≡ moved (machine_of self.old) (branched target (flag_on (held self.old.stack)) self.old.label (held self.old.stack) self.old.values) }
-        ensures same_program { self.new.program ≡ self.old.program }
-        ensures same_status { self.new.status ≡ self.old.status }
+        ensures { (is_some result, machine_of self.new) ≡ moved (machine_of self.old) (branched target (flag_on (held self.old.stack)) self.old.label (held self.old.stack) self.old.values) }
     {
-        match self.stack.flag() {
-            Some(true) => {
-                self.stack.pop();
-                self.go(self.label + 1)
-            }
-            Some(false) => {
-                let next = usize::from(target);
-                self.stack.pop();
-                self.go(next)
-            }
-            None => self.fault(),
+        let &[Value::Flag(flag), ..] = self.stack.places() else {
+            return None;
+        };
+        self.stack.pop();
+        // Two calls: as one choice of a label, the next instruction waits for the boolean, and the nest takes 3 % longer.
+        if flag {
+            self.go(self.label + 1)
+        } else {
+            self.go(usize::from(target))
         }
     }
 }

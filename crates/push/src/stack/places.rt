@@ -1,5 +1,4 @@
 ghost use Rattle.std.specs.Prelude.{◌≡◌, ◌+◌, ◌<◌, ◌≤◌, true, [], ◌∷◌, length, drop, is_some, nat_lt};
-ghost use Rattle.push.specs.Machine.{integer_on, integers_on, flag_on};
 ghost use Rattle.push.specs.Of.{held};
 
 use super::Stack;
@@ -12,7 +11,7 @@ impl Stack {
     {
         Stack {
             top: STACK_PLACES,
-            items: [Value::Flag(false); STACK_PLACES],
+            items: [Value::Int(0); STACK_PLACES],
         }
     }
 
@@ -23,50 +22,11 @@ impl Stack {
         self.top > 0
     }
 
-    // The integer on top.
-    pub(crate) fn integer(&self) -> Option<i32>
-        ensures value { result ≡ integer_on (held self.now) }
-        ensures depth { is_some result ≡ true → (1 ≤ length (held self.now)) × (length (held self.now) ≤ 8) }
+    // The places that are in use, top first.
+    pub(crate) fn places(&self) -> &[Value]
+        ensures { result.now ≡ held self.now }
     {
-        if self.top + 1 > STACK_PLACES {
-            return None;
-        }
-        let top = self.items[self.top];
-        match top {
-            Value::Int(t) => Some(t),
-            Value::Flag(_) => None,
-        }
-    }
-
-    // The integer under the top, and the one on top.
-    pub(crate) fn integers(&self) -> Option<(i32, i32)>
-        ensures value { result ≡ integers_on (held self.now) }
-        ensures depth { is_some result ≡ true → (2 ≤ length (held self.now)) × (length (held self.now) ≤ 8) }
-    {
-        if self.top + 2 > STACK_PLACES {
-            return None;
-        }
-        let places = (self.items[self.top], self.items[self.top + 1]);
-        match places {
-            (Value::Int(t), Value::Int(u)) => Some((u, t)),
-            (Value::Int(_), Value::Flag(_)) => None,
-            (Value::Flag(_), _) => None,
-        }
-    }
-
-    // The boolean on top.
-    pub(crate) fn flag(&self) -> Option<bool>
-        ensures value { result ≡ flag_on (held self.now) }
-        ensures depth { is_some result ≡ true → (1 ≤ length (held self.now)) × (length (held self.now) ≤ 8) }
-    {
-        if self.top + 1 > STACK_PLACES {
-            return None;
-        }
-        let top = self.items[self.top];
-        match top {
-            Value::Flag(t) => Some(t),
-            Value::Int(_) => None,
-        }
+        &self.items[self.top..]
     }
 
     // Pops so many places and pushes a value.
