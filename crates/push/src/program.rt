@@ -5,7 +5,7 @@ use crate::instruction::Instruction;
 
 mod table;
 
-// At most 128 instructions, owned, so that a run needs nothing else.
+// At most 128 instructions, owned, so that a run needs nothing else. A table and a length: a device has no heap for a `Vec`.
 #[derive(Drop)]
 pub struct Program {
     table: [Instruction; INSTRUCTIONS],

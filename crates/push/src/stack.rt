@@ -5,7 +5,8 @@ use crate::value::Value;
 
 mod places;
 
-// A stack of at most 8 places that grows down: the top is items[top], and 8 is the top of the empty one.
+// A stack of at most 8 places that grows down: the top is items[top], and 8 is the top of the empty one. An array, since a
+// device has no heap for a `Vec`.
 // `top` stands before `items` and is written after them: a compiled run then keeps it in a register.
 #[derive(Clone, Copy)]
 pub struct Stack {

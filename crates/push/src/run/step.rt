@@ -13,6 +13,7 @@ use crate::stack::Stack;
 use crate::status::Status;
 use crate::value::Value;
 
+// That the label is below 128 holds only where it has an instruction, so it is a clause of the calls that a step makes.
 impl State {
     // At label 0, with an empty stack.
     pub(super) fn new(values: [i32; VARIABLES]) -> Self
