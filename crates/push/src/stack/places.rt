@@ -16,6 +16,7 @@ impl Stack {
     }
 
     // Whether one more place is free.
+    #[tactic(auto, using(crate::proofs::StackFacts::depth))]
     pub(crate) fn has_room(&self) -> bool
         ensures { result ≡ nat_lt (length (held self.now)) 8 }
     {
@@ -30,6 +31,7 @@ impl Stack {
     }
 
     // Pops so many places and pushes a value.
+    #[tactic(auto, using(crate::proofs::StackFacts::depth))]
     pub(crate) fn put(&mut self, popped: usize, value: Value)
         requires { (popped ≤ length (held self.old)) × (length (held self.old) < 8 + popped) }
         ensures { held self.new ≡ value ∷ drop popped (held self.old) }
