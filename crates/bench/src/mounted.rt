@@ -6,9 +6,9 @@ ghost use Rattle.bench.specs.Input.{all_levels, with_values};
 ghost use Rattle.bench.specs.Report.{shown_text as shown_text_of, report_over as report_over_of, report as report_of};
 
 use checker::MountFault;
-use controller::{Ready, Refusal, SHEET, Setup, VARIABLES};
+use controller::{LINE, Ready, Refusal, SHEET, Setup, VARIABLES};
 use lattice::Lattice;
-use report::{Input, LINE, Reporter, bad_input, push_mount, push_sheet, report_by};
+use report::{Input, Reporter, bad_input, push_mount, push_sheet, report_by};
 use std::alloc::{AllocError, Global};
 
 // The text of a mount's answer and of an observer's sheet, by way of a buffer that any sheet fits.

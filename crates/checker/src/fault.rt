@@ -45,6 +45,7 @@ impl From<Rule> for u8 {
     }
 }
 
+// A job is refused where its opening or its length is wrong.
 impl From<ReadFault> for MountFault {
     ghost from_gives = { λ fault mount_fault. mount_fault ≡ Read fault };
 

@@ -60,7 +60,8 @@ fn check_records<L: Lattice>(lattice: &L, job: &Job) -> Result<(), MountFault>
 }
 
 impl<L: Lattice> Rules<'_, L> {
-    // The first label that breaks a rule of stacks, stores and successors.
+    // The first label that breaks a rule of stacks, stores and successors. This call and the next share `first_fault`; with
+    // both closures in `check_claims` the order of the rules would be harder to see.
     fn check_labels(&self) -> Result<(), MountFault>
         ensures { mount_answer result ≡ first_below (label_rule (L.Lattice.order self.now.lattice.now) (levels_of self.now) (job_of self.now)) (exit (job_of self.now)) }
     {

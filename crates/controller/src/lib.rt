@@ -18,7 +18,7 @@ pub use call::Call;
 pub use ending::Ending;
 pub use list::transcript;
 pub use push::VARIABLES;
-pub use ready::{Ready, SHEET};
+pub use ready::{LINE, Ready, SHEET};
 pub use refusal::Refusal;
 pub use running::Running;
 pub use setup::Setup;

@@ -7,8 +7,7 @@ use push::Program;
 mod calls;
 mod sheet;
 
-pub(crate) use sheet::LINE;
-pub use sheet::SHEET;
+pub use sheet::{LINE, SHEET};
 
 // A sealed controller: its levels stay; jobs can be mounted and started, values written, read and shown.
 #[derive(Drop)]

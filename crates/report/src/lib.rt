@@ -8,4 +8,4 @@ mod text;
 
 pub use input::Input;
 pub use kinds::{Reporter, report, report_by};
-pub use text::{LINE, bad_input, push_mount, push_sheet};
+pub use text::{bad_input, push_mount, push_sheet};

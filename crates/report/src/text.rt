@@ -4,11 +4,8 @@ ghost use Rattle.controller.specs.Of.{answer_of};
 ghost use Rattle.report.specs.Report.{bad_input as bad_input_text, rows, sheet_text, mount_line, answer_lines, is_refused as is_refused_of, answers_text as answers_text_of};
 
 use checker::MountFault;
-use controller::Answer;
+use controller::{Answer, LINE};
 use std::alloc::{AllocError, Global};
-
-// The bytes of a sheet's line: a variable and its value.
-pub const LINE: usize = 5;
 
 // The line of what is no input.
 pub fn bad_input(heap: Global) -> Result<String, AllocError>

@@ -7,7 +7,7 @@ use crate::VARIABLES;
 use lattice::Lattice;
 
 // The bytes of one variable on a sheet.
-pub(crate) const LINE: usize = 5;
+pub const LINE: usize = 5;
 
 // The bytes of a sheet that holds every variable.
 pub const SHEET: usize = LINE * VARIABLES;
