@@ -83,11 +83,6 @@ module _ (rule : Claimed → Instruction → ℕ) where
   where_some (Some d) None ne = absurd (ne refl)
   where_some (Some d) (Some k) ne = (d, k, refl, refl, refl)
 
-  where_from : (oc : Option Claimed) (oi : Option Instruction) → ((c : Claimed) (i : Instruction) → oc ≡ Some c → oi ≡ Some i → rule c i ≡ 0) → where_claimed rule oc oi ≡ 0
-  where_from None oi h = refl
-  where_from (Some d) None h = refl
-  where_from (Some d) (Some k) h = h d k refl refl
-
 no_ten : {A : Type 0} (n : ℕ) → suc n ≡ 0 → A
 no_ten n e = absurd (omega arith)
 

@@ -1,5 +1,6 @@
 -- What leaves a label, place by place. Assumes nothing.
-use Rattle.std.proofs.Common.{◌≡◌, ℕ, zero, suc, ◌+◌, ◌-◌, ◌<◌, Bool, false, ◌&&◌, List, [], ◌∷◌, ◌++◌, map, length, get_or, drop, Some, None, Option, refl, ap, ◌∙◌, ap₂, arith, length-append, length-drop, get_or-drop}
+use Rattle.std.proofs.Common.{◌≡◌, ℕ, zero, suc, ◌+◌, ◌-◌, ◌<◌, Bool, false, ◌&&◌, List, [], ◌∷◌, ◌++◌, map, length, get_or, drop, is_some, Some, None, Option, refl, ap, ◌∙◌, ap₂, arith, length-append, length-drop, get_or-drop}
+use mir.Val.{bool_byte}
 use Rattle.std.specs.List.{list_all, range_with_len}
 use Rattle.std.proofs.lemmas.List.{length-map, get_or-map, drop_all, drop_more}
 use Rattle.std.proofs.lemmas.Bool.{and_right}
@@ -26,6 +27,10 @@ pushed_as_listed o levels c (GotoF m j) = refl
 
 pub leaves_length : (o : Order) (levels : List ℕ) (c : Claimed) (i : Instruction) → length (leaves o levels c i) ≡ length (optional (pushes i)) + (length c.stack - length (pops i))
 leaves_length o levels c i = simp (length-append, length-map, length-drop) (omega (arith, pushed_as_listed o levels c i))
+
+pub one_if_some : {X : Type 0} (p : Option X) → length (optional p) ≡ bool_byte (is_some p)
+one_if_some None = refl
+one_if_some (Some x) = refl
 
 -- a place below the one that is pushed, if one is
 rest_at : (f : Place → Place) (k i : ℕ) (xs : List Place) (d : Place) → i < length (map f (drop k xs)) → get_or (map f (drop k xs)) i d ≡ f (get_or xs (i + k) d)

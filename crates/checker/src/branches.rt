@@ -17,7 +17,7 @@ struct Region {
 }
 
 impl<L: Lattice> Rules<'_, L> {
-    // Whether label 0 claims the empty stack that a run begins with.
+    // The rule that label 0 breaks if it does not claim the empty stack that a run begins with. No instructions break none.
     pub(crate) fn check_entry(&self) -> Result<(), Rule>
         ensures { rule_answer result ≡ entry_rule (job_of self.now) }
     {
@@ -30,7 +30,7 @@ impl<L: Lattice> Rules<'_, L> {
         }
     }
 
-    // Whether the surrounding level of a label is at least a branch's.
+    // Whether a label claims a surrounding level that is at least a branch's guard.
     fn is_at_least(&self, guard: u16, label: u16) -> bool
         ensures { result ≡ claim_at_least (L.Lattice.order self.now.lattice.now) guard ((job_of self.now).claim label) }
     {
@@ -39,14 +39,14 @@ impl<L: Lattice> Rules<'_, L> {
             .is_some_and(|claim| self.lattice.at_most(guard, claim.surrounding))
     }
 
-    // Whether a label is not marked, or its surrounding level is at least the branch's.
+    // Whether a label is not marked, or its surrounding level is at least the guard.
     fn is_clear(&self, region: &Region, label: u16) -> bool
         ensures { result ≡ is_clear_of (L.Lattice.order self.now.lattice.now) (job_of self.now) region.now.guard region.now.marks.at label }
     {
         !region.marks.has(usize::from(label)) || self.is_at_least(region.guard, label)
     }
 
-    // Whether the surrounding level of every marked label is at least the branch's.
+    // Whether the surrounding level of every marked label is at least the guard.
     fn marked_at_least(&self, region: &Region) -> bool
         ensures { result ≡ marked_at_least_of (L.Lattice.order self.now.lattice.now) (job_of self.now) region.now.guard region.now.marks.at }
     {
@@ -54,7 +54,7 @@ impl<L: Lattice> Rules<'_, L> {
         (0..exit).all(|label| self.is_clear(region, label))
     }
 
-    // Whether the region of a branch keeps away from the exit and is raised.
+    // The rule that a region breaks if the exit is in it, or a label whose surrounding level is below the guard.
     fn check_region(&self, region: &Region) -> Result<(), Rule>
         ensures { rule_answer result ≡ region_rule (L.Lattice.order self.now.lattice.now) (job_of self.now) region.now.guard region.now.marks.at }
     {
@@ -71,15 +71,14 @@ impl<L: Lattice> Rules<'_, L> {
     pub(crate) fn check_branch(&self, label: u8) -> Result<(), Rule>
         ensures { rule_answer result ≡ branch_rule (L.Lattice.order self.now.lattice.now) (job_of self.now) label }
     {
-        let Some(claim) = self.job.claim(u16::from(label)) else {
+        let claim = self.job.claim(u16::from(label));
+        let instruction = self.program.fetch(usize::from(label));
+        let Some((claim, Instruction::GotoF { junction, .. })) = claim.zip(instruction) else {
             return Ok(());
         };
-        match self.program.fetch(usize::from(label)) {
-            Some(Instruction::GotoF { junction, .. }) => self.check_region(&Region {
-                guard: claim.place(0).level(),
-                marks: Marks::region(self.program, junction, label),
-            }),
-            _ => Ok(()),
-        }
+        self.check_region(&Region {
+            guard: claim.place(0).level(),
+            marks: Marks::region(self.program, junction, label),
+        })
     }
 }

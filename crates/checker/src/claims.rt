@@ -41,6 +41,7 @@ impl<L: Lattice> Rules<'_, L> {
     pub(crate) fn check_label(&self, label: u8) -> Result<(), Rule>
         ensures { rule_answer result ≡ label_rule (L.Lattice.order self.now.lattice.now) (levels_of self.now) (job_of self.now) label }
     {
+        // Not by `zip`, as `check_branch` has it: the proof of the rules' order does not close.
         let Some(claim) = self.job.claim(u16::from(label)) else {
             return Ok(());
         };

@@ -27,8 +27,7 @@ fn decode(job: &Job) -> Result<Program, MountFault>
         let instruction = job
             .instruction(label)
             .map_err(|fault| MountFault::Record(fault, label))?;
-        // There are at most 128 labels, so there is room.
-        let _ = program.add(instruction);
+        program.add(instruction).unwrap();
     }
     Ok(program)
 }
@@ -60,8 +59,8 @@ fn check_records<L: Lattice>(lattice: &L, job: &Job) -> Result<(), MountFault>
 }
 
 impl<L: Lattice> Rules<'_, L> {
-    // The first label that breaks a rule of stacks, stores and successors. This call and the next share `first_fault`; with
-    // both closures in `check_claims` the order of the rules would be harder to see.
+    // The first label that breaks a rule of stacks, stores and successors. One function with `check_branches`, over the
+    // rule that is asked, was tried: the proof of `check_claims`, which then has both closures, does not close.
     fn check_labels(&self) -> Result<(), MountFault>
         ensures { mount_answer result ≡ first_below (label_rule (L.Lattice.order self.now.lattice.now) (levels_of self.now) (job_of self.now)) (exit (job_of self.now)) }
     {

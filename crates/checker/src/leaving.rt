@@ -70,7 +70,7 @@ impl<L: Lattice> Leaving<'_, L> {
         }
     }
 
-    // A place that the instruction leaves where it was.
+    // What becomes of a place that the instruction leaves: a branch raises it by the level of the boolean that it pops.
     fn raised(&self, place: Place) -> Place
         ensures { result ≡ raised_of (L.Lattice.order self.now.lattice.now) (says self.now) self.now.instruction place }
     {
@@ -90,10 +90,7 @@ impl<L: Lattice> Leaving<'_, L> {
         ensures bound { result ≤ 256 }
     {
         let left = u16::from(self.claim.depth).saturating_sub(self.instruction.popped());
-        match self.instruction.pushes() {
-            Some(_) => left + 1,
-            None => left,
-        }
+        left + u16::from(self.instruction.pushes().is_some())
     }
 
     // A place that leaves, the top being 0; an integer of level 0 below the bottom.

@@ -1,12 +1,14 @@
 ghost use Rattle.std.specs.Prelude.{◌≡◌, length};
 
+use push::INSTRUCTIONS;
+
 mod spread;
 
 // The labels of a program and its exit.
-pub(crate) const LABELS: usize = 129;
+pub(crate) const LABELS: usize = INSTRUCTIONS + 1;
 
-// Every round of spreading but the last marks one more label.
-pub(crate) const ROUNDS: usize = 130;
+// Enough rounds of spreading: as long as one marks a label, the next may mark another, and there are no more.
+pub(crate) const ROUNDS: usize = LABELS + 1;
 
 // Marks at labels.
 #[derive(Drop)]

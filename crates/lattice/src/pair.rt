@@ -1,5 +1,5 @@
 ghost use Rattle.std.specs.Prelude.{◌≡◌, ℕ, Some, ◌*◌, ◌<◌, ◌≤◌, ◌&&◌, MatchBool, cond, nat_lt};
-ghost use Rattle.lattice.specs.Kinds.{pair as pair_order, pair_span, pair_at_most, code as code_of_lem, parts_of, PartsAreLevels, KeepsLevels, IsPartByPart, levels};
+ghost use Rattle.lattice.specs.Kinds.{pair as pair_order, pair_span, pair_at_most, code as code_of, parts_of, PartsAreLevels, KeepsLevels, IsPartByPart, levels};
 ghost use Rattle.lattice.specs.PairLaws.{pair_laws};
 
 use crate::lattice::Lattice;
@@ -21,7 +21,7 @@ impl<A: Lattice, B: Lattice> Pair<A, B> {
         Pair { first, second }
     }
 
-    // The two parts of a level.
+    // The two parts of a level; none of a code that is no level.
     fn parts(&self, code: u16) -> Option<(u16, u16)>
         ensures value { result ≡ parts_of (A.Lattice.order self.now.first) (B.Lattice.order self.now.second) code }
         ensures levels { PartsAreLevels (A.Lattice.order self.now.first) (B.Lattice.order self.now.second) result }
@@ -37,7 +37,7 @@ impl<A: Lattice, B: Lattice> Pair<A, B> {
     // The level of two parts.
     fn compose(&self, first: u16, second: u16) -> u16
         requires { PartsAreLevels (A.Lattice.order self.now.first) (B.Lattice.order self.now.second) (Some (first, second)) }
-        ensures { result ≡ code_of_lem (B.Lattice.order self.now.second) first second }
+        ensures { result ≡ code_of (B.Lattice.order self.now.second) first second }
     {
         (u32::from(first) * self.second.span() + u32::from(second)) as u16
     }
@@ -66,7 +66,7 @@ impl<A: Lattice, B: Lattice> Pair<A, B> {
     fn end(&self, first: u16, second: u16) -> u16
         requires first_level { 0 < (A.Lattice.order self.now.first).span → first < (A.Lattice.order self.now.first).span }
         requires second_level { 0 < (B.Lattice.order self.now.second).span → second < (B.Lattice.order self.now.second).span }
-        ensures { result ≡ cond (nat_lt 0 (pair_span (A.Lattice.order self.now.first) (B.Lattice.order self.now.second))) (code_of_lem (B.Lattice.order self.now.second) first second) 0 }
+        ensures { result ≡ cond (nat_lt 0 (pair_span (A.Lattice.order self.now.first) (B.Lattice.order self.now.second))) (code_of (B.Lattice.order self.now.second) first second) 0 }
     {
         if self.span() == 0 {
             0
