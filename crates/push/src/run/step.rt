@@ -81,9 +81,19 @@ impl State {
         requires { (self.old.label < 128) × ((popped ≤ length (held self.old.stack)) × (length (held self.old.stack) < 8 + popped)) }
         ensures { (is_some result, machine_of self.new) ≡ moved (machine_of self.old) (Some (at (self.old.label + 1) (value ∷ drop popped (held self.old.stack)) self.old.values)) }
     {
-        // The label first: after the stack, the compiler joins the ways to the next step, and the nest takes a fifth longer.
+        // The label first: tried after the stack, a step of the nest of branches took a fifth longer.
         self.label += 1;
         self.stack.put(popped, value);
+        Some(())
+    }
+
+    // Goes on to the next label with the top popped.
+    fn pop(&mut self) -> Option<()>
+        requires { (self.old.label < 128) × (1 ≤ length (held self.old.stack)) }
+        ensures { (is_some result, machine_of self.new) ≡ moved (machine_of self.old) (Some (at (self.old.label + 1) (drop 1 (held self.old.stack)) self.old.values)) }
+    {
+        self.label += 1;
+        self.stack.pop();
         Some(())
     }
 
@@ -121,9 +131,7 @@ impl State {
         }
         // Tried: of what is written through get_mut a proof knows the length alone.
         self.values[index] = number;
-        self.label += 1;
-        self.stack.pop();
-        Some(())
+        self.pop()
     }
 
     // Puts what is made of the integers u and t in their place, where t is on top and u under it.
@@ -156,15 +164,14 @@ impl State {
         requires { self.old.label < 128 }
         ensures { (is_some result, machine_of self.new) ≡ moved (machine_of self.old) (branched target (flag_on (held self.old.stack)) self.old.label (held self.old.stack) self.old.values) }
     {
-        let &[Value::Flag(flag), ..] = self.stack.places() else {
-            return None;
-        };
-        self.stack.pop();
-        // Two calls: as one choice of a label, the next instruction waits for the boolean, and the nest takes 3 % longer.
-        if flag {
-            self.go(self.label + 1)
-        } else {
-            self.go(usize::from(target))
+        // Two arms: tried as one choice of a label, a step of the nest of branches took 3 % longer.
+        match self.stack.places() {
+            [Value::Flag(true), ..] => self.pop(),
+            [Value::Flag(false), ..] => {
+                self.stack.pop();
+                self.go(usize::from(target))
+            }
+            _ => None,
         }
     }
 }

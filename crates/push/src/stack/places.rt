@@ -11,7 +11,7 @@ impl Stack {
     {
         Stack {
             top: STACK_PLACES,
-            items: [Value::Int(0); STACK_PLACES],
+            items: [Value::Flag(false); STACK_PLACES],
         }
     }
 
