@@ -148,7 +148,7 @@ impl State {
         self.put(2, make(u, t))
     }
 
-    // Puts the boolean that the one on top is not in its place.
+    // Replaces the boolean on top by its opposite.
     fn turn(&mut self) -> Option<()>
         requires { self.old.label < 128 }
         ensures { (is_some result, machine_of self.new) ≡ moved (machine_of self.old) (turned (flag_on (held self.old.stack)) self.old.label (held self.old.stack) self.old.values) }
