@@ -1,5 +1,5 @@
 -- What a call's outcome tells its caller, by the answer that came. Assumes nothing.
-use Rattle.std.proofs.Common.{◌≡◌, ℕ, ◌*◌, ◌<◌, ◌≤◌, true, false, ltb, List, ◌++◌, length, drop, set, ℤ, is_err, Ok, Err, Result, arith}
+use Rattle.std.proofs.Common.{◌≡◌, ℕ, ◌<◌, ◌≤◌, true, false, ltb, List, length, set, ℤ, is_err, Ok, Err, Result, arith}
 use Rattle.std.proofs.lemmas.Bool.{true≢false, false≢true}
 use Rattle.std.proofs.lemmas.Bool.Decides.{nat_tests}
 use Rattle.lattice.specs.Order.{Order}
@@ -7,7 +7,7 @@ use Rattle.controller.specs.declared.refusal.Refusal.{Refusal}
 use Rattle.controller.specs.declared.refusal.Refusal.TheVariants.{NoVariable, NoLevel, ShortBuffer}
 use Rattle.controller.specs.Answers.{done_answer, shown_answer, refusal_number}
 use Rattle.controller.specs.State.{SetupState, ReadyState, grade_outcome, set_outcome}
-use Rattle.controller.specs.Sheet.{open_count, sheet, show_outcome}
+use Rattle.controller.specs.Sheet.{show_outcome}
 use Rattle.controller.proofs.SheetFacts.{open_at_most}
 
 refused_is_some : (e : Refusal) → 0 < refusal_number e
@@ -26,10 +26,7 @@ not_graded o s t variable level (Err refusal) small err e = let some = refused_i
 pub was_set : (s t : ReadyState) (variable : ℕ) (value : ℤ) (r : Result (Unit {0}) Refusal) → variable < 32 → (done_answer r, t) ≡ set_outcome s variable value → (t.levels ≡ s.levels) × (t.values ≡ set s.values variable value) × (t.program ≡ s.program)
 was_set s t variable value r small e = grind (arith, nat_tests)
 
--- an accepted show, and one that is refused though the buffer holds any sheet
-pub was_shown : (o : Order) (s : ReadyState) (observer count : ℕ) (buffer after : List ℕ) → (shown_answer (Ok count), after) ≡ show_outcome o s observer buffer → (ltb observer o.span ≡ true) × (count ≡ open_count o s observer) × (after ≡ sheet o s observer ++ drop (5 * count) buffer)
-was_shown o s observer count buffer after e = grind (arith, nat_tests)
-
+-- a show that is refused though the buffer holds any sheet
 pub not_shown : (o : Order) (s : ReadyState) (observer : ℕ) (refusal : Refusal) (buffer after : List ℕ) → 160 ≤ length buffer → (shown_answer (Err refusal), after) ≡ show_outcome o s observer buffer → ltb observer o.span ≡ false
 not_shown o s observer refusal buffer after long e =
     let some = refused_is_some refusal in

@@ -34,8 +34,14 @@ fn call_in_setup<L: Lattice + Drop>(mut setup: Setup<L>, call: Call) -> Step<L>
             Some((Phase::Setup(setup), Answer::Graded(answer)))
         }
         Call::Seal => Some((Phase::Ready(setup.seal()), Answer::Sealed)),
-        Call::Mount(_) | Call::Set { .. } | Call::Read(_) | Call::Show { .. } | Call::Start => None,
-        Call::Advance(_) | Call::End | Call::Unseal => None,
+        Call::Mount(_)
+        | Call::Set { .. }
+        | Call::Read(_)
+        | Call::Show { .. }
+        | Call::Start
+        | Call::Advance(_)
+        | Call::End
+        | Call::Unseal => None,
     }
 }
 
@@ -53,8 +59,14 @@ fn call_while_running<L: Lattice + Drop>(mut running: Running<L>, call: Call) ->
             let (ready, ending) = running.end();
             Some((Phase::Ready(ready), Answer::Ended(ending)))
         }
-        Call::Grade { .. } | Call::Seal | Call::Mount(_) | Call::Set { .. } | Call::Read(_) => None,
-        Call::Show { .. } | Call::Start | Call::Unseal => None,
+        Call::Grade { .. }
+        | Call::Seal
+        | Call::Mount(_)
+        | Call::Set { .. }
+        | Call::Read(_)
+        | Call::Show { .. }
+        | Call::Start
+        | Call::Unseal => None,
     }
 }
 
@@ -74,6 +86,7 @@ fn show_within<L: Lattice>(
             let bytes = Vec::from_slice(heap, &buffer[..LINE * count])?;
             Ok(Ok(Sheet { bytes }))
         }
+        // A refusal is a value of the list here: `?` is for want of memory.
         Err(refusal) => Ok(Err(refusal)),
     }
 }
@@ -87,28 +100,18 @@ fn call_when_ready<L: Lattice + Drop>(
     ensures outcome { IfOk result (λ step. outcome_of step ≡ ready_call (L.Lattice.order ready.grades.lattice) (ready_state ready) (call_of call.entry)) }
     ensures same_lattice { IfOk result (KeepsLattice ready.grades.lattice) }
 {
-    let step = match call {
-        Call::Mount(job) => {
-            let answer = ready.mount(job);
-            (Phase::Ready(ready), Answer::Mounted(answer))
-        }
-        Call::Set { variable, value } => {
-            let answer = ready.set(variable, value);
-            (Phase::Ready(ready), Answer::WasSet(answer))
-        }
-        Call::Read(variable) => {
-            let answer = ready.read(variable);
-            (Phase::Ready(ready), Answer::WasRead(answer))
-        }
+    let answer = match call {
+        Call::Mount(job) => Answer::Mounted(ready.mount(job)),
+        Call::Set { variable, value } => Answer::WasSet(ready.set(variable, value)),
+        Call::Read(variable) => Answer::WasRead(ready.read(variable)),
         Call::Show { observer, length } => {
-            let answer = show_within(heap, &ready, observer, length)?;
-            (Phase::Ready(ready), Answer::Shown(answer))
+            Answer::Shown(show_within(heap, &ready, observer, length)?)
         }
-        Call::Start => (Phase::Running(ready.start()), Answer::Started),
-        Call::Unseal => (Phase::Setup(ready.unseal()), Answer::Unsealed),
+        Call::Start => return Ok(Some((Phase::Running(ready.start()), Answer::Started))),
+        Call::Unseal => return Ok(Some((Phase::Setup(ready.unseal()), Answer::Unsealed))),
         Call::Grade { .. } | Call::Seal | Call::Advance(_) | Call::End => return Ok(None),
     };
-    Ok(Some(step))
+    Ok(Some((Phase::Ready(ready), answer)))
 }
 
 impl<L: Lattice + Drop> Phase<L> {

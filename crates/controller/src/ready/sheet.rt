@@ -12,13 +12,12 @@ pub const LINE: usize = 5;
 // The bytes of a sheet that holds every variable.
 pub const SHEET: usize = LINE * VARIABLES;
 
-// Writes a variable's number and value.
-fn write_line(line: &mut [u8], variable: u8, value: i32)
-    requires { length line.old ≡ 5 }
-    ensures { line.new ≡ line_of variable value }
+// A variable's number and value.
+fn line(variable: u8, value: i32) -> [u8; LINE]
+    ensures { result ≡ line_of variable value }
 {
     let [b0, b1, b2, b3] = value.to_le_bytes();
-    line.copy_from_slice(&[variable, b0, b1, b2, b3]);
+    [variable, b0, b1, b2, b3]
 }
 
 impl<L: Lattice> Ready<L> {
@@ -32,7 +31,7 @@ impl<L: Lattice> Ready<L> {
         let mut at = 0;
         for (variable, value) in self.values.iter().enumerate() {
             if self.grades.is_open(variable, observer) {
-                write_line(&mut buffer[at..at + LINE], variable as u8, *value);
+                buffer[at..at + LINE].copy_from_slice(&line(variable as u8, *value));
                 at += LINE;
             }
         }

@@ -1,4 +1,4 @@
-use Rattle.std.proofs.Common.{◌++◌, get_or, pos, sym, ap, arith, to_z-of_z, w32, SFits, rules}
+use Rattle.std.proofs.Common.{◌++◌, get_or, pos, sym, ap, ◌∙◌, arith, to_z-of_z, w32, SFits, rules}
 use Rattle.controller.specs.Of.{ready_state}
 use Rattle.controller.proofs.SheetFacts.{open_none, lines_none, open_turn, closed_turn}
 use Rattle.controller.proofs.ready.Ready.write_open.Goals as goal
@@ -21,7 +21,7 @@ loop-variable-preserved g c =
     elim c.if-is_open.branch [
       | then-is_open w ↦
           let fits : SFits w32 (get_or s.values n (pos 0)) = search rules in
-          let line = simp to_z-of_z at w.write_line.ensures in
-          rw (w.at-is, w.buffer-is) (open_turn o s c.args.observer n at old c.loop-variable.buffer inv.0 inv.1 w.write_line.new.line line (sym w.if-is_open.ensures))
+          let line = w.copy_from_slice.ensures.after ∙ simp to_z-of_z at w.line.ensures in
+          rw (w.at-is, w.buffer-is) (open_turn o s c.args.observer n at old c.loop-variable.buffer inv.0 inv.1 w.copy_from_slice.new.self line (sym w.if-is_open.ensures))
       | else-is_open w ↦ rw (w.at-is, w.buffer-is) (closed_turn o s c.args.observer n at old c.loop-variable.buffer inv.0 inv.1 (sym w.if-is_open.ensures))
     ]
