@@ -48,6 +48,7 @@ fn set_all<L: Lattice>(ready: &mut Ready<L>, input: &Input)
     ensures same_lattice { ready.new.grades.lattice ≡ ready.old.grades.lattice }
 {
     for variable in 0..VARIABLES as u8 {
+        // Each of the numbers is a variable, so nothing is refused.
         let _ = ready.set(variable, input.value(variable));
     }
 }

@@ -14,7 +14,7 @@ pub fn bad_input(heap: Global) -> Result<String, AllocError>
     String::from_str(heap, "input\n")
 }
 
-// Appends a row for each line of a sheet.
+// Appends a row for each line of a sheet: the number of a variable and its value, in decimal.
 fn push_rows(text: &mut String, sheet: &[u8]) -> Result<(), AllocError>
     ensures { OnOk result (string_bytes text.new ≡ string_bytes text.old ++ rows sheet.now) }
 {
