@@ -38,7 +38,7 @@ impl TryFrom<u8> for Kind {
     }
 }
 
-// A way to report on an input, over whichever lattice it names.
+// A way to report on an input, over whichever lattice it names. What it finds to be no input gets no report.
 pub trait Reporter {
     ghost text: { Order → List ℕ → List ℕ };
 

@@ -14,7 +14,7 @@ pub enum NoReport {
     NoMemory,
 }
 
-// The first byte of an input names a kind.
+// Bytes of which the first names no kind are no input.
 impl From<NoKind> for NoReport {
     ghost from_gives = { λ _ why. why ≡ NoInput };
 
@@ -23,7 +23,7 @@ impl From<NoKind> for NoReport {
     }
 }
 
-// The levels and the observer of an input are levels of its lattice.
+// Bytes with a level or an observer that is no level of their lattice are no input.
 impl From<Refusal> for NoReport {
     ghost from_gives = { λ _ why. why ≡ NoInput };
 
@@ -32,7 +32,7 @@ impl From<Refusal> for NoReport {
     }
 }
 
-// Memory ran out.
+// Where an allocation fails, there is no memory left.
 impl From<AllocError> for NoReport {
     ghost from_gives = { λ _ why. why ≡ NoMemory };
 

@@ -79,7 +79,7 @@ fn is_refused(answer: &Answer) -> bool
     matches!(answer, Answer::Graded(Err(_)) | Answer::Shown(Err(_)))
 }
 
-// The text of the answers of a list.
+// The text of a list of answers. Where a grade or a show was refused, there was no input.
 pub fn answers_text(heap: Global, answers: &[Answer]) -> Result<String, NoReport>
     ensures { Tells result (answers_text_of (map answer_of answers.now)) }
 {
