@@ -4,7 +4,7 @@
 
 #[cfg(test)]
 mod tests {
-    use controller::{Answer, Call, Ending, Sheet, transcript};
+    use controller::{Answer, Call, Ending, SHEET, Sheet, transcript};
     use lattice::{Flip, Ladder, Lattice, Owners, Pair};
     use std::alloc::{AllocError, Global};
     use std::process::Abort;
@@ -159,7 +159,7 @@ mod tests {
     fn show<'x>(level: u8) -> Call<'x> {
         Call::Show {
             observer: u16::from(level),
-            length: 160,
+            length: SHEET,
         }
     }
 
@@ -222,7 +222,7 @@ mod tests {
         let right = transcript(heap, right, &calls(job.as_slice(), levels, -1, 1000))?;
         let (left_open, left_all) = sheets(rt, left.as_slice())?;
         let (right_open, right_all) = sheets(rt, right.as_slice())?;
-        assert_eq!(rt; left_open.count(), right_open.count());
+        assert_eq!(rt; left_open.count(), 3);
         assert_eq!(rt; left_open.bytes.as_slice(), right_open.bytes.as_slice());
         assert_eq!(rt; left_open.bytes.as_slice(), OPEN.as_slice());
         assert_ne!(rt; left_all.bytes.as_slice(), right_all.bytes.as_slice());

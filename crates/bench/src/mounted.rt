@@ -2,13 +2,14 @@ ghost use Rattle.std.specs.Prelude.{◌≡◌, IfOk, string_bytes, is_ok};
 ghost use Rattle.checker.specs.Faults.{mount_answer};
 ghost use Rattle.controller.specs.Of.{ready_state};
 ghost use Rattle.report.specs.Input.{level, each};
+ghost use Rattle.report.specs.Of.{Tells};
 ghost use Rattle.bench.specs.Input.{all_levels, with_values};
 ghost use Rattle.bench.specs.Report.{shown_text as shown_text_of, report_over as report_over_of, report as report_of};
 
 use checker::MountFault;
 use controller::{LINE, Ready, Refusal, SHEET, Setup, VARIABLES};
 use lattice::Lattice;
-use report::{Input, Reporter, bad_input, push_mount, push_sheet, report_by};
+use report::{Input, NoReport, Reporter, push_mount, push_sheet, report_by};
 use std::alloc::{AllocError, Global};
 
 // The text of a mount's answer and of an observer's sheet, by way of a buffer that any sheet fits.
@@ -17,13 +18,11 @@ fn shown_text<L: Lattice>(
     mounted: &Result<(), MountFault>,
     ready: &Ready<L>,
     observer: u16,
-) -> Result<String, AllocError>
-    ensures { IfOk result (λ t. string_bytes t ≡ shown_text_of (L.Lattice.order ready.now.grades.lattice) (mount_answer mounted.now) (ready_state ready.now) observer) }
+) -> Result<String, NoReport>
+    ensures { Tells result (shown_text_of (L.Lattice.order ready.now.grades.lattice) (mount_answer mounted.now) (ready_state ready.now) observer) }
 {
     let mut buffer = [0; SHEET];
-    let Ok(count) = ready.show(observer, &mut buffer) else {
-        return bad_input(heap);
-    };
+    let count = ready.show(observer, &mut buffer)?;
     let mut text = String::new(heap);
     push_mount(&mut text, mounted)?;
     push_sheet(&mut text, count, &buffer[..LINE * count])?;
@@ -48,6 +47,7 @@ fn set_all<L: Lattice>(ready: &mut Ready<L>, input: &Input)
     ensures same_lattice { ready.new.grades.lattice ≡ ready.old.grades.lattice }
 {
     for variable in 0..VARIABLES as u8 {
+        // Each of the numbers is a variable, so nothing is refused.
         let _ = ready.set(variable, input.value(variable));
     }
 }
@@ -62,11 +62,9 @@ impl Reporter for Mounted {
         heap: Global,
         lattice: L,
         input: &Input,
-    ) -> Result<String, AllocError> {
+    ) -> Result<String, NoReport> {
         let mut setup = Setup::new(lattice);
-        if grade_all(&mut setup, input).is_err() {
-            return bad_input(heap);
-        }
+        grade_all(&mut setup, input)?;
         let mut ready = setup.seal();
         let mounted = ready.mount(input.job());
         set_all(&mut ready, input);

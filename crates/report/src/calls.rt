@@ -7,7 +7,7 @@ use crate::input::Input;
 use controller::{Call, SHEET, VARIABLES};
 use std::alloc::{AllocError, Global};
 
-// The grade of a variable.
+// The call that grades a variable by the level that the input gives it.
 fn grade<'x>(input: &Input<'x>, variable: u8) -> Call<'x>
     ensures { call_of result ≡ grade_of variable (level input.now.bytes.now variable) }
 {
@@ -17,7 +17,7 @@ fn grade<'x>(input: &Input<'x>, variable: u8) -> Call<'x>
     }
 }
 
-// The set of a variable.
+// The call that sets a variable to the value that the input gives it.
 fn set<'x>(input: &Input<'x>, variable: u8) -> Call<'x>
     ensures { call_of result ≡ set_of variable (value input.now.bytes.now variable) }
 {

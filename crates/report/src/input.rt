@@ -1,5 +1,5 @@
 ghost use Rattle.std.specs.Prelude.{◌≡◌, ℕ, ◌+◌, ◌<◌, ◌^◌, slice_index};
-ghost use Rattle.report.specs.Input.{level as level_of, value as value_of_lem, observer as observer_of, budget as budget_of, fits as fits_of, job as job_of};
+ghost use Rattle.report.specs.Input.{level as level_of, value as value_of, observer as observer_of, budget as budget_of, fits as fits_of, job as job_of};
 
 use std::array;
 
@@ -10,9 +10,10 @@ pub struct Input<'a> {
 }
 
 impl<'a> Input<'a> {
-    // The fewest and the most bytes of an input.
+    // The fewest bytes of an input.
     pub const SHORTEST: usize = 199;
 
+    // The most bytes of an input.
     pub const LONGEST: usize = 4555;
 
     // Whether the length is one that an input may have.
@@ -37,24 +38,28 @@ impl<'a> Input<'a> {
         array::from_fn(|k| self.byte(at + k))
     }
 
+    // The level that the input gives a variable.
     pub fn level(&self, variable: u8) -> u16
         ensures { result ≡ level_of self.now.bytes.now variable }
     {
         u16::from_le_bytes(self.field(1 + 2 * usize::from(variable)))
     }
 
+    // The value that the input gives a variable.
     pub fn value(&self, variable: u8) -> i32
-        ensures { result ≡ value_of_lem self.now.bytes.now variable }
+        ensures { result ≡ value_of self.now.bytes.now variable }
     {
         i32::from_le_bytes(self.field(65 + 4 * usize::from(variable)))
     }
 
+    // The code of the observer's level.
     pub fn observer(&self) -> u16
         ensures { result ≡ observer_of self.now.bytes.now }
     {
         u16::from_le_bytes(self.field(193))
     }
 
+    // The most steps that the run may take.
     pub fn budget(&self) -> u32
         ensures { result ≡ budget_of self.now.bytes.now }
     {

@@ -1,10 +1,11 @@
 ghost use Rattle.std.specs.Prelude.{◌≡◌, ℕ, List, IfOk, string_bytes};
 ghost use Rattle.lattice.specs.Order.{Order};
 ghost use Rattle.report.specs.Report.{input_text, report_over as report_over_of, report as report_of};
-ghost use Rattle.report.specs.Of.{Reads};
+ghost use Rattle.report.specs.Of.{Reads, Tells};
 
 use crate::calls::calls;
 use crate::input::Input;
+use crate::no_report::NoReport;
 use crate::text::{answers_text, bad_input};
 use controller::transcript;
 use lattice::{Flip, Ladder, Lattice, Owners, Pair};
@@ -20,7 +21,7 @@ enum Kind {
 
 // A byte that names no kind.
 #[derive(Clone, Copy)]
-struct NoKind;
+pub struct NoKind;
 
 impl TryFrom<u8> for Kind {
     type Error = NoKind;
@@ -37,7 +38,7 @@ impl TryFrom<u8> for Kind {
     }
 }
 
-// A way to report on an input, over whichever lattice it names.
+// A way to report on an input, over whichever lattice it names. What it finds to be no input gets no report.
 pub trait Reporter {
     ghost text: { Order → List ℕ → List ℕ };
 
@@ -45,27 +46,36 @@ pub trait Reporter {
         heap: Global,
         lattice: L,
         input: &Input,
-    ) -> Result<String, AllocError>
-        ensures { IfOk result (λ t. string_bytes t ≡ text (L.Lattice.order lattice) input.now.bytes.now) };
+    ) -> Result<String, NoReport>
+        ensures { Tells result (text (L.Lattice.order lattice) input.now.bytes.now) };
+}
+
+// A reporter's report over the lattice that an input names.
+fn report_on<R: Reporter>(heap: Global, input: &Input) -> Result<String, NoReport>
+    ensures { Tells result (input_text R.text input.now.bytes.now) }
+{
+    if !input.fits() {
+        return Err(NoReport::NoInput);
+    }
+    match Kind::try_from(input.byte(0))? {
+        Kind::Ladder => R::report_over(heap, Ladder::new(16), input),
+        Kind::Owners => R::report_over(heap, Owners::new(4), input),
+        Kind::Pair => R::report_over(
+            heap,
+            Pair::new(Ladder::new(4), Flip::new(Ladder::new(4))),
+            input,
+        ),
+    }
 }
 
 // A reporter's report on a bench input, or the line `input` where it is none.
 pub fn report_by<R: Reporter>(heap: Global, bytes: &[u8]) -> Result<String, AllocError>
     ensures { IfOk result (λ t. string_bytes t ≡ input_text R.text bytes.now) }
 {
-    let input = Input { bytes };
-    if !input.fits() {
-        return bad_input(heap);
-    }
-    match Kind::try_from(input.byte(0)) {
-        Ok(Kind::Ladder) => R::report_over(heap, Ladder::new(16), &input),
-        Ok(Kind::Owners) => R::report_over(heap, Owners::new(4), &input),
-        Ok(Kind::Pair) => R::report_over(
-            heap,
-            Pair::new(Ladder::new(4), Flip::new(Ladder::new(4))),
-            &input,
-        ),
-        Err(NoKind) => bad_input(heap),
+    match report_on::<R>(heap, &Input { bytes }) {
+        Ok(text) => Ok(text),
+        Err(NoReport::NoInput) => bad_input(heap),
+        Err(NoReport::NoMemory) => Err(AllocError),
     }
 }
 
@@ -79,7 +89,7 @@ impl Reporter for Transcript {
         heap: Global,
         lattice: L,
         input: &Input,
-    ) -> Result<String, AllocError> {
+    ) -> Result<String, NoReport> {
         let calls = calls(heap, input)?;
         let answers = transcript(heap, lattice, calls.as_slice())?;
         answers_text(heap, answers.as_slice())

@@ -1,8 +1,10 @@
 ghost use Rattle.std.specs.Prelude.{◌≡◌, ◌++◌, map, IfOk, string_bytes, OnOk};
 ghost use Rattle.checker.specs.Faults.{mount_answer};
 ghost use Rattle.controller.specs.Of.{answer_of};
+ghost use Rattle.report.specs.Of.{Tells};
 ghost use Rattle.report.specs.Report.{bad_input as bad_input_text, rows, sheet_text, mount_line, answer_lines, is_refused as is_refused_of, answers_text as answers_text_of};
 
+use crate::no_report::NoReport;
 use checker::MountFault;
 use controller::{Answer, LINE};
 use std::alloc::{AllocError, Global};
@@ -14,7 +16,7 @@ pub fn bad_input(heap: Global) -> Result<String, AllocError>
     String::from_str(heap, "input\n")
 }
 
-// Appends a row for each line of a sheet.
+// Appends a row for each line of a sheet: the number of a variable and its value, in decimal.
 fn push_rows(text: &mut String, sheet: &[u8]) -> Result<(), AllocError>
     ensures { OnOk result (string_bytes text.new ≡ string_bytes text.old ++ rows sheet.now) }
 {
@@ -77,12 +79,12 @@ fn is_refused(answer: &Answer) -> bool
     matches!(answer, Answer::Graded(Err(_)) | Answer::Shown(Err(_)))
 }
 
-// The text of the answers of a list.
-pub fn answers_text(heap: Global, answers: &[Answer]) -> Result<String, AllocError>
-    ensures { IfOk result (λ t. string_bytes t ≡ answers_text_of (map answer_of answers.now)) }
+// The text of a list of answers. Where a grade or a show was refused, there was no input.
+pub fn answers_text(heap: Global, answers: &[Answer]) -> Result<String, NoReport>
+    ensures { Tells result (answers_text_of (map answer_of answers.now)) }
 {
     if answers.iter().any(is_refused) {
-        return bad_input(heap);
+        return Err(NoReport::NoInput);
     }
     let mut text = String::new(heap);
     for answer in answers {

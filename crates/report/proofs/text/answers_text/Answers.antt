@@ -1,4 +1,4 @@
-use Rattle.std.proofs.Common.{◌≡◌, take_all, map, true, false, sym, ap, ◌∙◌, rules, arith}
+use Rattle.std.proofs.Common.{◌≡◌, take_all, map, true, false, sym, refl, ap, ◌∙◌, rules, arith}
 use Rattle.std.specs.List.{flat_map}
 use Rattle.std.proofs.lemmas.Iterator.{YieldsList-from_slice}
 use Rattle.std.proofs.lemmas.Iterator.Search.{any_from_yields_List}
@@ -12,7 +12,7 @@ returns-then-any c =
     let answers = c.args.answers.now in
     let tested = any_from_yields_List (λ a. is_refused (answer_of a)) _ _ c.any.result c.any.ensures.ran (YieldsList-from_slice answers cc) (λ x b q k. search rules) in
     let refused : any_refused (map answer_of answers) ≡ true = sym (refused_of answers) ∙ sym tested ∙ c.if-any.true in
-    rw refused c.bad_input.ensures
+    rw refused refl
 
 pub returns : goal.returns
 returns c =

@@ -1,0 +1,42 @@
+ghost use Rattle.std.specs.Prelude.{◌≡◌};
+ghost use Rattle.report.specs.declared.no_report.NoReport.TheVariants.{NoInput, NoMemory};
+
+use crate::kinds::NoKind;
+use controller::Refusal;
+use std::alloc::AllocError;
+
+// Why there is no report.
+#[derive(Clone, Copy, PartialEq, Eq, Debug)]
+pub enum NoReport {
+    // The bytes are no input.
+    NoInput,
+    // There is no memory left.
+    NoMemory,
+}
+
+// Bytes of which the first names no kind are no input.
+impl From<NoKind> for NoReport {
+    ghost from_gives = { λ _ why. why ≡ NoInput };
+
+    fn from(_kind: NoKind) -> NoReport {
+        NoReport::NoInput
+    }
+}
+
+// Bytes with a level or an observer that is no level of their lattice are no input.
+impl From<Refusal> for NoReport {
+    ghost from_gives = { λ _ why. why ≡ NoInput };
+
+    fn from(_refusal: Refusal) -> NoReport {
+        NoReport::NoInput
+    }
+}
+
+// Where an allocation fails, there is no memory left.
+impl From<AllocError> for NoReport {
+    ghost from_gives = { λ _ why. why ≡ NoMemory };
+
+    fn from(_error: AllocError) -> NoReport {
+        NoReport::NoMemory
+    }
+}
