@@ -27,4 +27,4 @@ Reads byte read = kind_read read ≡ kind byte
 abbrev pub Tells : {Z : Type 0} → Result (String Z) NoReport → List ℕ → Type 0
 Tells (Ok told) text = string_bytes told ≡ text
 Tells (Err NoInput) text = text ≡ bad_input
-Tells (Err NoMemory) text = ⊤
+Tells (Err (NoMemory _)) text = ⊤

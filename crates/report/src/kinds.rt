@@ -75,7 +75,7 @@ pub fn report_by<R: Reporter>(heap: Global, bytes: &[u8]) -> Result<String, Allo
     match report_on::<R>(heap, &Input { bytes }) {
         Ok(text) => Ok(text),
         Err(NoReport::NoInput) => bad_input(heap),
-        Err(NoReport::NoMemory) => Err(AllocError),
+        Err(NoReport::NoMemory(error)) => Err(error),
     }
 }
 

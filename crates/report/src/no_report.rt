@@ -11,7 +11,7 @@ pub enum NoReport {
     // The bytes are no input.
     NoInput,
     // There is no memory left.
-    NoMemory,
+    NoMemory(AllocError),
 }
 
 // Bytes of which the first names no kind are no input.
@@ -34,9 +34,9 @@ impl From<Refusal> for NoReport {
 
 // Where an allocation fails, there is no memory left.
 impl From<AllocError> for NoReport {
-    ghost from_gives = { λ _ why. why ≡ NoMemory };
+    ghost from_gives = { λ error why. why ≡ NoMemory error };
 
-    fn from(_error: AllocError) -> NoReport {
-        NoReport::NoMemory
+    fn from(error: AllocError) -> NoReport {
+        NoReport::NoMemory(error)
     }
 }
