@@ -1,5 +1,5 @@
-ghost use Rattle.std.specs.Prelude.{◌≡◌, ◌≤◌, length};
-ghost use Rattle.push.specs.Language.{pops as pops_of, pushes as pushes_of, falls_through, target as target_of};
+ghost use Rattle.std.specs.Prelude.{◌≡◌, ◌≤◌, length, flat_map, option_to_list};
+ghost use Rattle.push.specs.Language.{pops as pops_of, pushes as pushes_of, falls_through, target as target_of, successors};
 
 use crate::kind::Kind;
 
@@ -75,5 +75,12 @@ impl Instruction {
             Instruction::Goto(target) | Instruction::GotoF { target, .. } => Some(target),
             _ => None,
         }
+    }
+    // The labels that it can go to from its own: the next one, if it falls through, and its target.
+    pub fn successors(self, label: u8) -> [Option<u16>; 2]
+        ensures { flat_map option_to_list result ≡ successors self label }
+    {
+        let next = self.falls_through().then_some(u16::from(label) + 1);
+        [next, self.target().map(u16::from)]
     }
 }
