@@ -12,5 +12,6 @@ pub mod RegionSet
 pub mod RegionWalk
 pub mod Safety
 pub mod SoundFacts
+pub mod SuccessorFacts
 pub mod TwoRuns
 pub mod Typing

@@ -25,7 +25,7 @@ abbrev pub says : {L : Type 0} → Leaving L → Claimed
 says l = claim_says l.claim
 
 abbrev pub leaves_of : {L : Type 0} → Order → Leaving L → List Place
-leaves_of o l = leaves o l.levels.now (says l) l.instruction
+leaves_of o l = leaves o (levels_of l.rules.now) (says l) l.instruction
 
 -- What the checks of the labels below an end find where each check answers by a rule.
 abbrev pub AnswersBy : (ℕ → Result (Unit {0}) MountFault → Type 0) → (ℕ → ℕ) → ℕ → Type 0

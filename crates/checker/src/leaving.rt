@@ -4,19 +4,19 @@ ghost use Rattle.job.specs.Of.{claim_says};
 ghost use Rattle.push.specs.Language.{begins as begins_of};
 ghost use Rattle.job.specs.Records.{kind as kind_of};
 ghost use Rattle.checker.specs.Leaving.{joined_one as joined_one_of, joined_two as joined_two_of, pushed as pushed_of, raised as raised_of, level_at, fits_under as fits_under_of, all_fit_under};
-ghost use Rattle.checker.specs.Rules.{fits_its_stack as fits_its_stack_of, stores_upward as stores_upward_of};
-ghost use Rattle.checker.specs.Of.{says, leaves_of};
+ghost use Rattle.checker.specs.Rules.{fits_its_stack as fits_its_stack_of, stores_upward as stores_upward_of, takes as takes_of, successors_take as successors_take_of};
+ghost use Rattle.checker.specs.Of.{levels_of, job_of, says, leaves_of};
 
+use crate::rules::Rules;
 use job::{Claim, Place};
 use lattice::Lattice;
 use push::{Instruction, Kind, STACK_PLACES};
 
-// A label's claim and its instruction, over a lattice and the levels of the variables: what leaves the label, and whether
-// the label may have such a claim.
+// A label's claim and its instruction, and the rules that are asked of them: what leaves the label, and whether the label
+// may have such a claim.
 #[derive(Drop)]
 pub(crate) struct Leaving<'a, L> {
-    pub(crate) lattice: &'a L,
-    pub(crate) levels: &'a [u16],
+    pub(crate) rules: &'a Rules<'a, L>,
     pub(crate) claim: Claim<'a>,
     pub(crate) instruction: Instruction,
 }
@@ -24,9 +24,13 @@ pub(crate) struct Leaving<'a, L> {
 impl<L: Lattice> Leaving<'_, L> {
     // The level of a variable; 0 for one that there is not.
     fn variable_level(&self, variable: u8) -> u16
-        ensures { result ≡ slice_index self.now.levels.now variable }
+        ensures { result ≡ slice_index (levels_of self.now.rules.now) variable }
     {
-        self.levels.get(usize::from(variable)).copied().unwrap_or(0)
+        self.rules
+            .levels
+            .get(usize::from(variable))
+            .copied()
+            .unwrap_or(0)
     }
 
     // The level of a claimed stack place, the top being 0.
@@ -38,26 +42,29 @@ impl<L: Lattice> Leaving<'_, L> {
 
     // The level of a result of one operand.
     fn joined_one(&self) -> u16
-        ensures { result ≡ joined_one_of (L.Lattice.order self.now.lattice.now) (says self.now) }
+        ensures { result ≡ joined_one_of (L.Lattice.order self.now.rules.now.lattice.now) (says self.now) }
     {
-        self.lattice.join(self.level_at(0), self.claim.surrounding)
+        self.rules
+            .lattice
+            .join(self.level_at(0), self.claim.surrounding)
     }
 
     // The level of a result of two operands.
     fn joined_two(&self) -> u16
-        ensures { result ≡ joined_two_of (L.Lattice.order self.now.lattice.now) (says self.now) }
+        ensures { result ≡ joined_two_of (L.Lattice.order self.now.rules.now.lattice.now) (says self.now) }
     {
-        let operands = self.lattice.join(self.level_at(0), self.level_at(1));
-        self.lattice.join(operands, self.claim.surrounding)
+        let operands = self.rules.lattice.join(self.level_at(0), self.level_at(1));
+        self.rules.lattice.join(operands, self.claim.surrounding)
     }
 
     // The place that the instruction pushes.
     fn pushed(&self) -> Option<Place>
-        ensures { result ≡ pushed_of (L.Lattice.order self.now.lattice.now) self.now.levels.now (says self.now) self.now.instruction }
+        ensures { result ≡ pushed_of (L.Lattice.order self.now.rules.now.lattice.now) (levels_of self.now.rules.now) (says self.now) self.now.instruction }
     {
         match self.instruction {
             Instruction::Load(variable) => {
                 let level = self
+                    .rules
                     .lattice
                     .join(self.variable_level(variable), self.claim.surrounding);
                 Some(Place::IntegerAt(level))
@@ -72,21 +79,21 @@ impl<L: Lattice> Leaving<'_, L> {
 
     // What becomes of a place that the instruction leaves: a branch raises it by the level of the boolean that it pops.
     fn raised(&self, place: Place) -> Place
-        ensures { result ≡ raised_of (L.Lattice.order self.now.lattice.now) (says self.now) self.now.instruction place }
+        ensures { result ≡ raised_of (L.Lattice.order self.now.rules.now.lattice.now) (says self.now) self.now.instruction place }
     {
         let Instruction::GotoF { .. } = self.instruction else {
             return place;
         };
         let guard = self.level_at(0);
         match place {
-            Place::IntegerAt(level) => Place::IntegerAt(self.lattice.join(guard, level)),
-            Place::BooleanAt(level) => Place::BooleanAt(self.lattice.join(guard, level)),
+            Place::IntegerAt(level) => Place::IntegerAt(self.rules.lattice.join(guard, level)),
+            Place::BooleanAt(level) => Place::BooleanAt(self.rules.lattice.join(guard, level)),
         }
     }
 
     // How many places leave.
-    pub(crate) fn depth(&self) -> u16
-        ensures value { result ≡ length (leaves_of (L.Lattice.order self.now.lattice.now) self.now) }
+    fn depth(&self) -> u16
+        ensures value { result ≡ length (leaves_of (L.Lattice.order self.now.rules.now.lattice.now) self.now) }
         ensures bound { result ≤ 256 }
     {
         let left = u16::from(self.claim.depth).saturating_sub(self.instruction.popped());
@@ -95,7 +102,7 @@ impl<L: Lattice> Leaving<'_, L> {
 
     // A place that leaves, the top being 0; an integer of level 0 below the bottom.
     fn place(&self, place: u16) -> Place
-        ensures { result ≡ slice_index_or (leaves_of (L.Lattice.order self.now.lattice.now) self.now) place (IntegerAt 0) }
+        ensures { result ≡ slice_index_or (leaves_of (L.Lattice.order self.now.rules.now.lattice.now) self.now) place (IntegerAt 0) }
     {
         if place >= self.depth() {
             return Place::IntegerAt(0);
@@ -111,14 +118,15 @@ impl<L: Lattice> Leaving<'_, L> {
 
     // Whether a leaving place has the claimed kind, and a level at most the claimed one.
     fn fits_under(&self, leaving: Place, claimed: Place) -> bool
-        ensures { result ≡ fits_under_of (L.Lattice.order self.now.lattice.now) leaving claimed }
+        ensures { result ≡ fits_under_of (L.Lattice.order self.now.rules.now.lattice.now) leaving claimed }
     {
-        leaving.kind() == claimed.kind() && self.lattice.at_most(leaving.level(), claimed.level())
+        leaving.kind() == claimed.kind()
+            && self.rules.lattice.at_most(leaving.level(), claimed.level())
     }
 
     // Whether all that leaves fits under a claimed stack.
-    pub(crate) fn all_fit_under(&self, next: Claim) -> bool
-        ensures { result ≡ all_fit_under (L.Lattice.order self.now.lattice.now) (leaves_of (L.Lattice.order self.now.lattice.now) self.now) (claim_says next.entry).stack }
+    fn all_fit_under(&self, next: Claim) -> bool
+        ensures { result ≡ all_fit_under (L.Lattice.order self.now.rules.now.lattice.now) (leaves_of (L.Lattice.order self.now.rules.now.lattice.now) self.now) (claim_says next.entry).stack }
     {
         let depth = self.depth();
         depth == u16::from(next.depth)
@@ -146,14 +154,40 @@ impl<L: Lattice> Leaving<'_, L> {
 
     // Whether what is stored goes to a variable whose level is high enough.
     pub(crate) fn stores_upward(&self) -> bool
-        ensures { result ≡ stores_upward_of (L.Lattice.order self.now.lattice.now) self.now.levels.now (says self.now) self.now.instruction }
+        ensures { result ≡ stores_upward_of (L.Lattice.order self.now.rules.now.lattice.now) (levels_of self.now.rules.now) (says self.now) self.now.instruction }
     {
         match self.instruction {
             Instruction::Store(variable) => {
-                self.lattice
+                self.rules
+                    .lattice
                     .at_most(self.joined_one(), self.variable_level(variable))
             }
             _ => true,
         }
+    }
+
+    // Whether a label takes what leaves: the exit an empty stack, another by its claim.
+    fn is_taken_by(&self, label: u16) -> bool
+        ensures { result ≡ takes_of (L.Lattice.order self.now.rules.now.lattice.now) (job_of self.now.rules.now) (leaves_of (L.Lattice.order self.now.rules.now.lattice.now) self.now) label }
+    {
+        if usize::from(label) == self.rules.program.len() {
+            return self.depth() == 0;
+        }
+        // Not by `is_some_and`: of a closure that calls `all_fit_under` no result is inferred, and it would want clauses.
+        match self.rules.job.claim(label) {
+            Some(next) => self.all_fit_under(next),
+            None => false,
+        }
+    }
+
+    // Whether every successor of the label takes what leaves it.
+    pub(crate) fn successors_take(&self, label: u8) -> bool
+        ensures { result ≡ successors_take_of (L.Lattice.order self.now.rules.now.lattice.now) (levels_of self.now.rules.now) (job_of self.now.rules.now) label (says self.now) self.now.instruction }
+    {
+        self.instruction
+            .successors(label)
+            .into_iter()
+            .flatten()
+            .all(|next| self.is_taken_by(next))
     }
 }

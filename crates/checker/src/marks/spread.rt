@@ -37,17 +37,15 @@ impl Marks {
     }
 
     // Marks what comes after a label, but for the junction.
+    #[tactic(auto, using(crate::proofs::RegionFacts::mark_one_more))]
     fn mark_next(&mut self, program: &Program, junction: u8, label: u8)
         ensures { self.new.at ≡ mark_all junction (next_labels (code program.now) label) self.old.at }
     {
         let Some(instruction) = program.fetch(usize::from(label)) else {
             return;
         };
-        if instruction.falls_through() {
-            self.mark(junction, u16::from(label) + 1);
-        }
-        if let Some(target) = instruction.target() {
-            self.mark(junction, u16::from(target));
+        for next in instruction.successors(label).into_iter().flatten() {
+            self.mark(junction, next);
         }
     }
 

@@ -12,7 +12,7 @@ use Rattle.checker.proofs.leaving.Leaving.all_fit_under.Goals as goal
 pub returns-then-depth-from : goal.returns-then-depth-from
 returns-then-depth-from g c =
     let next = c.args.next in
-    let o = g.L.Lattice.order c.args.self.now.lattice.now in
+    let o = g.L.Lattice.order c.args.self.now.rules.now.lattice.now in
     let left = leaves_of o c.args.self.now in
     let taken = (claim_says next).stack in
     let n = c.depth-depth.result in
@@ -24,7 +24,7 @@ returns-then-depth-from g c =
 pub returns-else-depth-from : goal.returns-else-depth-from
 returns-else-depth-from g c =
     let next = c.args.next in
-    let o = g.L.Lattice.order c.args.self.now.lattice.now in
+    let o = g.L.Lattice.order c.args.self.now.rules.now.lattice.now in
     let left = leaves_of o c.args.self.now in
     let deep = stack_length next.record.now next.depth in
     let other : c.depth-depth.result ≡ c.from.result → ⊥ = c.if-depth-from.false in

@@ -9,7 +9,7 @@ use Rattle.checker.proofs.leaving.Leaving.depth.Goals as goal
 pub returns-clause-value : goal.returns-clause-value
 returns-clause-value g c =
     let self = c.args.self.now in
-    let all = leaves_length (g.L.Lattice.order self.lattice.now) self.levels.now (says self) self.instruction in
+    let all = leaves_length (g.L.Lattice.order self.rules.now.lattice.now) self.rules.now.levels.now (says self) self.instruction in
     let deep = stack_length self.claim.record.now self.claim.depth in
     let one = one_if_some (pushes self.instruction) in
     omega (arith, all, deep, one, ap (λ p. bool_byte (is_some p)) c.pushes.ensures, ap bool_byte c.is_some.ensures)

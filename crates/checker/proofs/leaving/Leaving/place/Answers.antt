@@ -10,11 +10,11 @@ use Rattle.checker.proofs.leaving.Leaving.place.Goals.{in-Some-default, in-None-
 pub returns : goal.returns
 returns g c =
     let self = c.args.self.now in
-    let o = g.L.Lattice.order self.lattice.now in
+    let o = g.L.Lattice.order self.rules.now.lattice.now in
     let i = self.instruction in
     let f = raised o (says self) i in
     let k = length (pops i) in
-    let p = pushed o self.levels.now (says self) i in
+    let p = pushed o self.rules.now.levels.now (says self) i in
     let stack = (says self).stack in
     let h : c.args.place < length (leaves_of o self) = omega (arith, c.depth.ensures.value) in
     elim c.match-pushed.branch [
