@@ -1,4 +1,4 @@
-ghost use Rattle.std.specs.Prelude.{◌≡◌, ◌<◌, count_by, length, slice_index};
+ghost use Rattle.std.specs.Prelude.{◌≡◌, count_by, length};
 
 use crate::VARIABLES;
 use lattice::Lattice;
@@ -13,12 +13,11 @@ pub struct Grades<L> {
 }
 
 impl<L: Lattice> Grades<L> {
-    // Whether a variable is open to an observer.
-    pub(crate) fn is_open(&self, variable: usize, observer: u16) -> bool
-        requires { variable < 32 }
-        ensures { result ≡ (L.Lattice.order self.now.lattice).at_most (slice_index self.now.levels variable) observer }
+    // Whether a variable of this level is open to an observer.
+    pub(crate) fn is_open(&self, level: u16, observer: u16) -> bool
+        ensures { result ≡ (L.Lattice.order self.now.lattice).at_most level observer }
     {
-        self.lattice.at_most(self.levels[variable], observer)
+        self.lattice.at_most(level, observer)
     }
 
     // How many variables are open to an observer.
@@ -27,7 +26,7 @@ impl<L: Lattice> Grades<L> {
     {
         self.levels
             .iter()
-            .filter(|level| self.lattice.at_most(**level, observer))
+            .filter(|level| self.is_open(**level, observer))
             .count()
     }
 }

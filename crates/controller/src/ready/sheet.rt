@@ -27,10 +27,12 @@ impl<L: Lattice> Ready<L> {
         requires { 5 * open_count (L.Lattice.order self.now.grades.lattice) (ready_state self.now) observer ≤ length buffer.old }
         ensures { buffer.new ≡ sheet_of (L.Lattice.order self.now.grades.lattice) (ready_state self.now) observer ++ drop (5 * open_count (L.Lattice.order self.now.grades.lattice) (ready_state self.now) observer) buffer.old }
     {
-        // Tried: a loop over the open variables by `filter`, alone or beside `chunks_exact_mut`. It gets no proof.
+        // Tried in place of `at`: the slice of what is left, moved on at each line. After the loop a proof knows the
+        // buffer's length alone. And a loop over the open variables by `filter`, alone or beside `chunks_exact_mut`: the
+        // check refuses what it writes of the iterator.
         let mut at = 0;
-        for (variable, value) in self.values.iter().enumerate() {
-            if self.grades.is_open(variable, observer) {
+        for (variable, (value, level)) in self.values.iter().zip(&self.grades.levels).enumerate() {
+            if self.grades.is_open(*level, observer) {
                 buffer[at..at + LINE].copy_from_slice(&line(variable as u8, *value));
                 at += LINE;
             }
