@@ -1,1 +1,1 @@
-pub mod Fields
+pub mod ShownFacts

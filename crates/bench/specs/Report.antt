@@ -3,9 +3,8 @@ use Rattle.std.specs.Prelude.{ℕ, cond, List, ◌++◌, nat_lt}
 use Rattle.lattice.specs.Order.{Order}
 use Rattle.controller.specs.State.{ReadyState, mount_outcome}
 use Rattle.controller.specs.Sheet.{open_count, sheet}
-use Rattle.report.specs.Input.{observer, job}
+use Rattle.report.specs.Input.{observer, job, all_levels, sealed, with_values}
 use Rattle.report.specs.Report.{bad_input, sheet_text, mount_line, input_text}
-use Rattle.bench.specs.Input.{all_levels, sealed, with_values}
 
 -- The lines of a mount's answer and of what an observer may see then.
 abbrev pub shown_text : Order → ℕ × ℕ → ReadyState → ℕ → List ℕ

@@ -3,10 +3,11 @@ use Rattle.std.proofs.Common.{◌≡◌, ℕ, List, [], ◌∷◌, ◌++◌, map
 use lib.ListN.{length-map}
 use Rattle.std.specs.Array.Iter.{array_into_iter_items, array_steps}
 use Rattle.std.specs.declared.array.IntoIter.{IntoIter}
+use Rattle.std.specs.Iterator.{AlwaysYields}
 use Rattle.std.proofs.lemmas.Iterator.{YieldsList, IsCollectResult, items_from_drains}
 use Rattle.std.proofs.lemmas.Iterator.Consumers.{YieldsList-from_shown}
-use Rattle.controller.specs.Lists.{grade, seal, mount, set, start, advance, end, show}
-use Rattle.report.specs.Input.{each, level, value, calls, budget as budget_of, observer as observer_of, job as job_of}
+use Rattle.controller.specs.Lists.{Call, grade, seal, mount, set}
+use Rattle.report.specs.Input.{each, level, value, calls_then, job as job_of}
 
 pub from_array : {A B : Type 0} (v : A → B) {n : ℕ} (s : IntoIter A n) (xs : List A) → array_into_iter_items s ≡ xs → YieldsList (array_steps {A = A} {n = n}) v s (map v xs)
 from_array {A} v {n} s xs e =
@@ -17,8 +18,16 @@ pub from_collect : {S A B Z E : Type 0} {steps : S → Option A → S → Type 0
 from_collect {v = v} (Ok w) wanted (xs, drained, items) same yields = ap (map v) items.0 ∙ items_from_drains xs drained yields ∙ same
 from_collect (Err e) wanted ran same yields = tt
 
--- The four parts of the chain are the whole list.
-pub all_parts : (bytes job : List ℕ) (budget observer : ℕ) → job ≡ job_of bytes → budget ≡ budget_of bytes → observer ≡ observer_of bytes → ((each (λ v. grade v (level bytes v)) ++ (seal ∷ mount job ∷ [])) ++ each (λ v. set v (value bytes v))) ++ (start ∷ advance budget ∷ end ∷ show observer 160 ∷ []) ≡ calls bytes
-all_parts bytes job budget observer j b w =
-    (λ i. ((each (λ v. grade v (level bytes v)) ++ (seal ∷ mount (j i) ∷ [])) ++ each (λ v. set v (value bytes v))) ++ (start ∷ advance (b i) ∷ end ∷ show (w i) 160 ∷ []))
+-- what v reads of the items that come
+always_viewed : {S A B : Type 0} (steps : S → Option A → S → Type 0) (v : A → B) (xs : List A) (s : S) → AlwaysYields steps (λ x. x) s xs → AlwaysYields steps v s (map v xs)
+always_viewed steps v [] s all = all
+always_viewed steps v (x ∷ xs) s all = (all.0, λ y t step. let next = all.1 y t step in (ap v next.0, always_viewed steps v xs t next.1))
+
+pub viewed : {S A B : Type 0} {steps : S → Option A → S → Type 0} {s : S} {xs : List A} (v : A → B) → YieldsList steps (λ x. x) s xs → YieldsList steps v s (map v xs)
+viewed {steps = steps} {s = s} {xs = xs} v all = record { runs = always_viewed steps v xs s all.runs }
+
+-- The parts of the chain are the whole list.
+pub all_parts : (bytes job : List ℕ) (after : List Call) → job ≡ job_of bytes → ((each (λ v. grade v (level bytes v)) ++ (seal ∷ mount job ∷ [])) ++ each (λ v. set v (value bytes v))) ++ after ≡ calls_then bytes after
+all_parts bytes job after j =
+    (λ i. ((each (λ v. grade v (level bytes v)) ++ (seal ∷ mount (j i) ∷ [])) ++ each (λ v. set v (value bytes v))) ++ after)
     ∙ simp append_assoc

@@ -1,9 +1,11 @@
--- Where the fields of an input stand. Assumes nothing.
-use Rattle.std.specs.Prelude.{ℕ, ◌+◌, ◌*◌, Bool, cond, ◌&&◌, List, [], ◌∷◌, ◌++◌, map, length, drop, ℤ, Some, None, Option, ◌==◌, nat_le, slice_index}
+-- Where the fields of an input stand, and what is done with them. Assumes nothing.
+use Rattle.std.specs.Prelude.{ℕ, ◌+◌, ◌*◌, Bool, cond, ◌&&◌, List, [], ◌∷◌, ◌++◌, map, length, drop, ℤ, Some, None, Option, ◌==◌, nat_le, nat_lt, slice_index}
 use Rattle.std.specs.Int.{w32, cast_signed}
 use Rattle.std.specs.List.{range_with_len}
 use Rattle.lattice.specs.Order.{Order}
 use Rattle.lattice.specs.Kinds.{ladder, owners, flip, pair}
+use Rattle.job.specs.Records.{all_below}
+use Rattle.controller.specs.State.{ReadyState, sealed_state}
 use Rattle.controller.specs.Lists.{Call, grade, seal, mount, set, start, advance, end, show}
 
 abbrev pub fits : List ℕ → Bool
@@ -39,9 +41,24 @@ job bytes = drop 199 bytes
 unfoldable pub each : {X : Type 0} → (ℕ → X) → List X
 each f = map f (range_with_len 0 32)
 
--- What is done with an input: every variable is graded, the controller sealed, the job mounted, every variable set, one run
--- made with the budget, and the observer's sheet shown by way of a buffer that any sheet fits.
-abbrev pub calls : List ℕ → List Call
-calls bytes =
+-- What is done with an input: every variable is graded, the controller sealed, the job mounted and every variable set, and then
+-- other calls are made.
+abbrev pub calls_then : List ℕ → List Call → List Call
+calls_then bytes after =
     each (λ variable. grade variable (level bytes variable))
-    ++ (seal ∷ mount (job bytes) ∷ (each (λ variable. set variable (value bytes variable)) ++ (start ∷ advance (budget bytes) ∷ end ∷ show (observer bytes) 160 ∷ [])))
+    ++ (seal ∷ mount (job bytes) ∷ (each (λ variable. set variable (value bytes variable)) ++ after))
+
+-- For a report these are one run with the budget, and the observer's sheet by way of a buffer that any sheet fits.
+abbrev pub calls : List ℕ → List Call
+calls bytes = calls_then bytes (start ∷ advance (budget bytes) ∷ end ∷ show (observer bytes) 160 ∷ [])
+
+-- Whether every level is a level of the lattice.
+abbrev pub all_levels : Order → List ℕ → Bool
+all_levels o bytes = all_below (λ variable. nat_lt (level bytes variable) o.span) 32
+
+-- The graded and sealed controller, and one with every value set.
+abbrev pub sealed : List ℕ → ReadyState
+sealed bytes = sealed_state (record { levels = each (level bytes) })
+
+abbrev pub with_values : List ℕ → ReadyState → ReadyState
+with_values bytes s = record { levels = s.levels; values = each (value bytes); program = s.program }

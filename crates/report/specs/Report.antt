@@ -3,8 +3,8 @@ use Rattle.std.specs.Prelude.{ℕ, ◌+◌, ◌*◌, Bool, false, cond, not, ◌
 use Rattle.std.specs.Int.{w32, cast_signed}
 use Rattle.std.specs.Fmt.{signed_decimal}
 use Rattle.lattice.specs.Order.{Order}
-use Rattle.controller.specs.Lists.{Answer, graded, sealed, mounted, was_set, was_read, shown, started, advanced, ended, unsealed, not_allowed, transcript}
-use Rattle.report.specs.Input.{fits, kind, calls}
+use Rattle.controller.specs.Lists.{Call, Answer, graded, sealed, mounted, was_set, was_read, shown, started, advanced, ended, unsealed, not_allowed, transcript}
+use Rattle.report.specs.Input.{fits, kind, calls, calls_then}
 
 abbrev pub bad_input : List ℕ
 bad_input = codes "input\n"
@@ -74,6 +74,10 @@ any_refused (answer ∷ answers) = is_refused answer || any_refused answers
 
 abbrev pub answers_text : List Answer → List ℕ
 answers_text answers = cond (any_refused answers) bad_input (lines answers)
+
+-- What is written of an input where those calls are made after its values are set.
+abbrev pub text_after : List Call → Order → List ℕ → List ℕ
+text_after after o bytes = answers_text (transcript o (calls_then bytes after))
 
 abbrev pub report_over : Order → List ℕ → List ℕ
 report_over o bytes = answers_text (transcript o (calls bytes))

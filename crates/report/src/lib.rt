@@ -8,6 +8,4 @@ mod no_report;
 mod text;
 
 pub use input::Input;
-pub use kinds::{Reporter, report, report_by};
-pub use no_report::NoReport;
-pub use text::{bad_input, push_mount, push_sheet};
+pub use kinds::{report, report_after};

@@ -2,7 +2,6 @@ ghost use Rattle.std.specs.Prelude.{◌≡◌};
 ghost use Rattle.report.specs.declared.no_report.NoReport.TheVariants.{NoInput, NoMemory};
 
 use crate::kinds::NoKind;
-use controller::Refusal;
 use std::alloc::AllocError;
 
 // Why there is no report.
@@ -19,15 +18,6 @@ impl From<NoKind> for NoReport {
     ghost from_gives = { λ _ why. why ≡ NoInput };
 
     fn from(_kind: NoKind) -> NoReport {
-        NoReport::NoInput
-    }
-}
-
-// Bytes with a level or an observer that is no level of their lattice are no input.
-impl From<Refusal> for NoReport {
-    ghost from_gives = { λ _ why. why ≡ NoInput };
-
-    fn from(_refusal: Refusal) -> NoReport {
         NoReport::NoInput
     }
 }

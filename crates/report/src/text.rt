@@ -29,7 +29,7 @@ fn push_rows(text: &mut String, sheet: &[u8]) -> Result<(), AllocError>
 }
 
 // Appends the text of a sheet with so many lines.
-pub fn push_sheet(text: &mut String, count: usize, sheet: &[u8]) -> Result<(), AllocError>
+fn push_sheet(text: &mut String, count: usize, sheet: &[u8]) -> Result<(), AllocError>
     ensures { OnOk result (string_bytes text.new ≡ string_bytes text.old ++ sheet_text count sheet.now) }
 {
     writeln!(text, "sheet {count}")?;
@@ -46,7 +46,7 @@ fn numbers(answer: &Result<(), MountFault>) -> (u8, u16)
 }
 
 // Appends the line of a mount's answer.
-pub fn push_mount(text: &mut String, answer: &Result<(), MountFault>) -> Result<(), AllocError>
+fn push_mount(text: &mut String, answer: &Result<(), MountFault>) -> Result<(), AllocError>
     ensures { OnOk result (string_bytes text.new ≡ string_bytes text.old ++ mount_line (mount_answer answer.now)) }
 {
     let (number, label) = numbers(answer);

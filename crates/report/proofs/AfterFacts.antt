@@ -1,0 +1,93 @@
+-- What the calls for an input answer before those that are made after its values are set. Assumes nothing.
+use Rattle.std.proofs.Common.{◌≡◌, ℕ, zero, suc, ◌+◌, ◌<◌, Bool, true, false, cond, eqb, ltb, ◌&&◌, List, ◌∷◌, ◌++◌, map, length, get_or, set, replicate, ℤ, pos, sym, refl, ap, ap₂, ◌∙◌, arith}
+use lib.ListN.{length-replicate}
+use Rattle.std.specs.List.{list_all, range_with_len}
+use Rattle.std.proofs.lemmas.List.{length-set}
+use Rattle.std.proofs.lemmas.List.FromFn.{fill_by_all}
+use Rattle.std.proofs.lemmas.List.Edits.{fill_by_more}
+use Rattle.std.proofs.lemmas.Bool.{lt-ltb}
+use Rattle.lattice.specs.Order.{Order}
+use Rattle.push.specs.declared.instruction.Instruction.{Instruction}
+use Rattle.job.specs.Layout.{opening}
+use Rattle.job.specs.Records.{all_below}
+use Rattle.job.proofs.AllBelow.{all_of_range}
+use Rattle.checker.specs.Verdict.{verdict, decoded_code}
+use Rattle.controller.specs.State.{SetupState, ReadyState, mount_outcome, mounted as mounted_by}
+use Rattle.controller.specs.Lists as lists
+use Rattle.controller.specs.Lists.{Call, in_setup, is_ready, graded, mounted, was_set, seal, mount, transcript_from, transcript}
+use Rattle.report.specs.Input.{level, value, each, job, calls_then, all_levels, sealed, with_values}
+use Rattle.report.specs.Report.{bad_input, answers_text}
+
+-- a list of 32 that has what f says at each place
+each_at : {X : Type 0} (f : ℕ → X) (xs : List X) (d : X) → length xs ≡ 32 → ((k : ℕ) → k < 32 → get_or xs k d ≡ f k) → xs ≡ each f
+unfolding each
+each_at f xs d long h = fill_by_all f xs 32 d long h
+
+each_is : {X : Type 0} (f : ℕ → X) (n : ℕ) → n ≡ 32 → each f ≡ map f (range_with_len 0 n)
+unfolding each
+each_is f n e = ap (λ k. map f (range_with_len 0 k)) (sym e)
+
+module _ (o : Order) (bytes : List ℕ) (rest : List Call) where
+  abbrev is_level : ℕ → Bool
+  is_level variable = ltb (level bytes variable) o.span
+
+  abbrev grades : ℕ → ℕ → List Call
+  grades i n = map (λ variable. lists.grade variable (level bytes variable)) (range_with_len i n) ++ rest
+
+  abbrev sets : ℕ → ℕ → List Call
+  sets i n = map (λ variable. lists.set variable (value bytes variable)) (range_with_len i n) ++ rest
+
+  -- a grade leaves no line, and one that is refused makes the input bad
+  text_graded : (n i : ℕ) (levels : List ℕ) → i + n ≡ 32 → length levels ≡ 32 → ((k : ℕ) → k < i → get_or levels k 0 ≡ level bytes k) → answers_text (transcript_from o i (in_setup (record { levels = levels })) (grades i n)) ≡ cond (list_all is_level (range_with_len i n)) (answers_text (transcript_from o 32 (in_setup (record { levels = each (level bytes) })) rest)) bad_input
+  text_graded zero i levels all long done =
+      let at : i ≡ 32 = omega arith in
+      ap₂ (λ place held. answers_text (transcript_from o place (in_setup (record { levels = held })) rest)) at (each_at (level bytes) levels 0 long (λ k h. done k (omega arith)))
+  text_graded (suc n) i levels all long done =
+      let l = level bytes i in
+      let out : Bool → Bool → ℕ × SetupState = λ known fits. cond known (cond fits (0, record { levels = set levels i l }) (2, record { levels = levels })) (1, record { levels = levels }) in
+      let text : Bool → Bool → List ℕ = λ known fits. answers_text (graded (out known fits).0 ∷ transcript_from o (i + 1) (in_setup (out known fits).1) (grades (i + 1) n)) in
+      let next = text_graded n (i + 1) (set levels i l) (omega arith) (length-set levels i l ∙ long) (fill_by_more (level bytes) levels i 0 (omega arith) done) in
+      ap (λ known. text known (is_level i)) (lt-ltb i 32 (omega arith))
+      ∙ elim (is_level i) as (λ fits. text true fits ≡ cond (fits && list_all is_level (range_with_len (i + 1) n)) (answers_text (transcript_from o 32 (in_setup (record { levels = each (level bytes) })) rest)) bad_input) [ true ↦ next | false ↦ refl ]
+
+  -- a set is never refused, and leaves no line
+  text_set : (n i place : ℕ) (answer : ℕ × ℕ) (levels : List ℕ) (values : List ℤ) (program : List Instruction) → i + n ≡ 32 → place + n ≡ 66 → length values ≡ 32 → ((k : ℕ) → k < i → get_or values k (pos 0) ≡ value bytes k) → answers_text (mounted answer ∷ transcript_from o place (is_ready (record { levels = levels; values = values; program = program })) (sets i n)) ≡ answers_text (mounted answer ∷ transcript_from o 66 (is_ready (record { levels = levels; values = each (value bytes); program = program })) rest)
+  text_set zero i place answer levels values program all end long done =
+      let at : place ≡ 66 = omega arith in
+      ap₂ (λ p held. answers_text (mounted answer ∷ transcript_from o p (is_ready (record { levels = levels; values = held; program = program })) rest)) at (each_at (value bytes) values (pos 0) long (λ k h. done k (omega arith)))
+  text_set (suc n) i place answer levels values program all end long done =
+      let x = value bytes i in
+      let out : Bool → ℕ × ReadyState = λ known. cond known (0, record { levels = levels; values = set values i x; program = program }) (1, record { levels = levels; values = values; program = program }) in
+      let next = text_set n (i + 1) (place + 1) answer levels (set values i x) program (omega arith) (omega arith) (length-set values i x ∙ long) (fill_by_more (value bytes) values i (pos 0) (omega arith) done) in
+      ap (λ known. answers_text (mounted answer ∷ was_set (out known).0 ∷ transcript_from o (place + 1) (is_ready (out known).1) (sets (i + 1) n))) (lt-ltb i 32 (omega arith)) ∙ next
+
+-- a mount leaves the values
+values_stay : (s : ReadyState) (v : ℕ × ℕ) (program : List Instruction) → (mounted_by s v program).1.values ≡ s.values
+values_stay s v program =
+    let out : Bool → (ℕ × ℕ) × ReadyState = λ t. cond t (v, record { levels = s.levels; values = s.values; program = program }) (v, s) in
+    elim (eqb v.0 0) as (λ t. (out t).1.values ≡ s.values) [ true ↦ refl | false ↦ refl ]
+
+module _ (o : Order) (bytes : List ℕ) (after : List Call) where
+  -- the mount of the job on the graded and sealed controller
+  abbrev mounting : (ℕ × ℕ) × ReadyState
+  mounting = mount_outcome o (sealed bytes) (job bytes)
+
+  abbrev text : List ℕ
+  text = answers_text (mounted mounting.0 ∷ transcript_from o 66 (is_ready (with_values bytes mounting.1)) after)
+
+  abbrev after_grades : List Call → List Call
+  after_grades sets = seal ∷ mount (job bytes) ∷ (sets ++ after)
+
+  text_by : (n : ℕ) → n ≡ 32 → answers_text (transcript o (calls_then bytes after)) ≡ cond (all_levels o bytes) text bad_input
+  text_by n e =
+      let all_graded : ℕ → Bool = λ variable. ltb (level bytes variable) o.span in
+      let setting = each (λ variable. lists.set variable (value bytes variable)) in
+      let long : length mounting.1.values ≡ 32 = ap length (values_stay (sealed bytes) (verdict o (each (level bytes)) (job bytes)) (decoded_code (job bytes) (opening (job bytes)))) ∙ length-replicate 32 (pos 0) in
+      ap (λ grading. answers_text (transcript o (grading ++ after_grades setting))) (each_is (λ variable. lists.grade variable (level bytes variable)) n e)
+      ∙ text_graded o bytes (after_grades setting) n 0 (replicate 32 o.highest) (omega (arith, e)) (length-replicate 32 o.highest) (λ k h. absurd (omega arith))
+      ∙ ap₂ (λ fit shown. cond fit shown bad_input) (all_of_range all_graded n ∙ ap (all_below all_graded) e)
+      (ap (λ sets. answers_text (transcript_from o 32 (in_setup (record { levels = each (level bytes) })) (after_grades sets))) (each_is (λ variable. lists.set variable (value bytes variable)) n e)
+      ∙ text_set o bytes after n 0 34 mounting.0 mounting.1.levels mounting.1.values mounting.1.program (omega (arith, e)) (omega (arith, e)) long (λ k h. absurd (omega arith)))
+
+  pub text_of_calls : answers_text (transcript o (calls_then bytes after)) ≡ cond (all_levels o bytes) text bad_input
+  text_of_calls = text_by 32 refl
