@@ -3,7 +3,7 @@ ghost use Rattle.push.specs.declared.status.Status.TheVariants.{Halted};
 ghost use Rattle.push.specs.Code.{code};
 ghost use Rattle.push.specs.Machine.{at, step as step_of, pushed, loaded, stored, turned, branched, integers_on, integer_on, flag_on};
 ghost use Rattle.push.specs.Run.{moved, arrived, run, is_halted};
-ghost use Rattle.push.specs.Of.{held, machine_of};
+ghost use Rattle.push.specs.Of.{machine_of};
 
 use super::State;
 use crate::VARIABLES;
@@ -70,7 +70,7 @@ impl State {
 
     // Comes to a label.
     fn go(&mut self, label: usize) -> Option<()>
-        ensures { (is_some result, machine_of self.new) ≡ moved (machine_of self.old) (Some (at label (held self.old.stack) self.old.values)) }
+        ensures { (is_some result, machine_of self.new) ≡ moved (machine_of self.old) (Some (at label self.old.stack self.old.values)) }
     {
         self.label = label;
         Some(())
@@ -78,8 +78,8 @@ impl State {
 
     // Goes on to the next label with a value in place of so many popped ones.
     fn put(&mut self, popped: usize, value: Value) -> Option<()>
-        requires { (self.old.label < 128) × ((popped ≤ length (held self.old.stack)) × (length (held self.old.stack) < 8 + popped)) }
-        ensures { (is_some result, machine_of self.new) ≡ moved (machine_of self.old) (Some (at (self.old.label + 1) (value ∷ drop popped (held self.old.stack)) self.old.values)) }
+        requires { (self.old.label < 128) × ((popped ≤ length self.old.stack) × (length self.old.stack < 8 + popped)) }
+        ensures { (is_some result, machine_of self.new) ≡ moved (machine_of self.old) (Some (at (self.old.label + 1) (value ∷ drop popped self.old.stack) self.old.values)) }
     {
         // The label first: tried after the stack, a step of the nest of branches took a fifth longer.
         self.label += 1;
@@ -89,8 +89,8 @@ impl State {
 
     // Goes on to the next label with the top popped.
     fn pop(&mut self) -> Option<()>
-        requires { (self.old.label < 128) × (1 ≤ length (held self.old.stack)) }
-        ensures { (is_some result, machine_of self.new) ≡ moved (machine_of self.old) (Some (at (self.old.label + 1) (drop 1 (held self.old.stack)) self.old.values)) }
+        requires { (self.old.label < 128) × (1 ≤ length self.old.stack) }
+        ensures { (is_some result, machine_of self.new) ≡ moved (machine_of self.old) (Some (at (self.old.label + 1) (drop 1 self.old.stack) self.old.values)) }
     {
         self.label += 1;
         self.stack.pop();
@@ -100,7 +100,7 @@ impl State {
     // Pushes a value, where a place is free.
     fn push(&mut self, value: Value) -> Option<()>
         requires { self.old.label < 128 }
-        ensures { (is_some result, machine_of self.new) ≡ moved (machine_of self.old) (pushed value self.old.label (held self.old.stack) self.old.values) }
+        ensures { (is_some result, machine_of self.new) ≡ moved (machine_of self.old) (pushed value self.old.label self.old.stack self.old.values) }
     {
         if !self.stack.has_room() {
             return None;
@@ -111,7 +111,7 @@ impl State {
     // Pushes a variable.
     fn load(&mut self, variable: u8) -> Option<()>
         requires { self.old.label < 128 }
-        ensures { (is_some result, machine_of self.new) ≡ moved (machine_of self.old) (loaded variable self.old.label (held self.old.stack) self.old.values) }
+        ensures { (is_some result, machine_of self.new) ≡ moved (machine_of self.old) (loaded variable self.old.label self.old.stack self.old.values) }
     {
         let number = *self.values.get(usize::from(variable))?;
         self.push(Value::Int(number))
@@ -120,7 +120,7 @@ impl State {
     // Pops the integer on top into a variable.
     fn store(&mut self, variable: u8) -> Option<()>
         requires { self.old.label < 128 }
-        ensures { (is_some result, machine_of self.new) ≡ moved (machine_of self.old) (stored variable (integer_on (held self.old.stack)) self.old.label (held self.old.stack) self.old.values) }
+        ensures { (is_some result, machine_of self.new) ≡ moved (machine_of self.old) (stored variable (integer_on self.old.stack) self.old.label self.old.stack self.old.values) }
     {
         let index = usize::from(variable);
         let &[Value::Int(number), ..] = self.stack.places() else {
@@ -138,9 +138,9 @@ impl State {
     fn combine<F: Fn(i32, i32) -> Value>(&mut self, make: F) -> Option<()>
         requires label { self.old.label < 128 }
         requires callable { F.IsAlwaysCallable make }
-        ensures { MatchOption (integers_on (held self.old.stack))
+        ensures { MatchOption (integers_on self.old.stack)
             ((is_some result, machine_of self.new) ≡ moved (machine_of self.old) None)
-            (λ p. (v : Value) × F.post make p.0 p.1 v × ((is_some result, machine_of self.new) ≡ moved (machine_of self.old) (Some (at (self.old.label + 1) (v ∷ drop 2 (held self.old.stack)) self.old.values)))) }
+            (λ p. (v : Value) × F.post make p.0 p.1 v × ((is_some result, machine_of self.new) ≡ moved (machine_of self.old) (Some (at (self.old.label + 1) (v ∷ drop 2 self.old.stack) self.old.values)))) }
     {
         let &[Value::Int(t), Value::Int(u), ..] = self.stack.places() else {
             return None;
@@ -151,7 +151,7 @@ impl State {
     // Replaces the boolean on top by its opposite.
     fn turn(&mut self) -> Option<()>
         requires { self.old.label < 128 }
-        ensures { (is_some result, machine_of self.new) ≡ moved (machine_of self.old) (turned (flag_on (held self.old.stack)) self.old.label (held self.old.stack) self.old.values) }
+        ensures { (is_some result, machine_of self.new) ≡ moved (machine_of self.old) (turned (flag_on self.old.stack) self.old.label self.old.stack self.old.values) }
     {
         let &[Value::Flag(flag), ..] = self.stack.places() else {
             return None;
@@ -162,7 +162,7 @@ impl State {
     // Goes to the target where the boolean on top is false.
     fn branch(&mut self, target: u8) -> Option<()>
         requires { self.old.label < 128 }
-        ensures { (is_some result, machine_of self.new) ≡ moved (machine_of self.old) (branched target (flag_on (held self.old.stack)) self.old.label (held self.old.stack) self.old.values) }
+        ensures { (is_some result, machine_of self.new) ≡ moved (machine_of self.old) (branched target (flag_on self.old.stack) self.old.label self.old.stack self.old.values) }
     {
         // Two arms: tried as one choice of a label, a step of the nest of branches took 3 % longer.
         match self.stack.places() {
