@@ -1,6 +1,5 @@
 ghost use Rattle.std.specs.Prelude.{◌≡◌, ◌+◌, ◌<◌, ◌≤◌, [], ◌∷◌, length, drop, is_some, Some, MatchOption, nat_eq, if◌then◌else◌};
 ghost use Rattle.push.specs.declared.status.Status.TheVariants.{Halted};
-ghost use Rattle.push.specs.Code.{code};
 ghost use Rattle.push.specs.Machine.{at, step as step_of, pushed, loaded, stored, turned, branched, integers_on, integer_on, flag_on};
 ghost use Rattle.push.specs.Run.{moved, arrived, run, is_halted};
 ghost use Rattle.push.specs.Of.{machine_of};
@@ -28,8 +27,8 @@ impl State {
 
     // Makes steps until none can be made or so many are made, and answers the status then and how many.
     pub(super) fn steps(&mut self, program: &Program, budget: u32) -> (Status, u32)
-        ensures status { is_halted result.0 ≡ nat_eq self.new.label (length (code program.now)) }
-        ensures run { (result.1, record { status = result.0; machine = machine_of self.new }) ≡ run (code program.now) budget (arrived (code program.now) (machine_of self.old)) }
+        ensures status { is_halted result.0 ≡ nat_eq self.new.label (length program.now) }
+        ensures run { (result.1, record { status = result.0; machine = machine_of self.new }) ≡ run program.now budget (arrived program.now (machine_of self.old)) }
     {
         for steps in 0..budget {
             if self.step(program).is_none() {
@@ -41,7 +40,7 @@ impl State {
 
     // Halted at the exit, and otherwise what is passed.
     fn status_unless_at_exit(&self, program: &Program, otherwise: Status) -> Status
-        ensures { result ≡ (if nat_eq self.now.label (length (code program.now)) then Halted else otherwise) }
+        ensures { result ≡ (if nat_eq self.now.label (length program.now) then Halted else otherwise) }
     {
         if self.label == program.len() {
             Status::Halted
@@ -52,7 +51,7 @@ impl State {
 
     // Makes the step that the instruction at the label asks for. None, and nothing changed, where no rule applies.
     fn step(&mut self, program: &Program) -> Option<()>
-        ensures { (is_some result, machine_of self.new) ≡ moved (machine_of self.old) (step_of (code program.now) (machine_of self.old)) }
+        ensures { (is_some result, machine_of self.new) ≡ moved (machine_of self.old) (step_of program.now (machine_of self.old)) }
     {
         match *program.look(self.label)? {
             Instruction::Load(variable) => self.load(variable),

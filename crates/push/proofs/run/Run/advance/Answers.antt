@@ -1,5 +1,4 @@
 use Rattle.std.proofs.Common.{sym}
-use Rattle.push.specs.Code.{code}
 use Rattle.push.specs.Of.{run_state}
 use Rattle.push.proofs.StepFacts.{step_follows_the_rules}
 use Rattle.push.proofs.RunFacts.{run_advances}
@@ -7,7 +6,7 @@ use Rattle.push.proofs.run.Run.advance.Goals as goal
 
 pub returns-clause-makes_the_machines_steps : goal.returns-clause-makes_the_machines_steps
 returns-clause-makes_the_machines_steps c =
-    rw (sym c.make_steps-steps.ensures.run) at (run_advances (code c.args.self.now.program) c.args.budget (run_state c.args.self.now))
+    rw (sym c.make_steps-steps.ensures.run) at (run_advances c.args.self.now.program c.args.budget (run_state c.args.self.now))
 
 pub returns-clause-steps_follow_the_rules : goal.returns-clause-steps_follow_the_rules
 returns-clause-steps_follow_the_rules c = step_follows_the_rules
