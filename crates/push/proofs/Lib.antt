@@ -1,4 +1,3 @@
 pub mod KindFacts
-pub mod Fetches
 pub mod StepFacts
 pub mod RunFacts

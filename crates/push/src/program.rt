@@ -1,7 +1,6 @@
-use std::marker::Model;
-
 use crate::INSTRUCTIONS;
 use crate::instruction::Instruction;
+use std::marker::Model;
 
 mod table;
 

@@ -46,7 +46,6 @@ impl Program {
     }
 
     // The same, lent and not copied: a step then reads no more of it than it needs.
-    #[tactic(auto, using(crate::proofs::Fetches::fetch_is_item))]
     pub(crate) fn look(&self, label: usize) -> Option<&Instruction>
         ensures value { option_copied result ≡ fetch_of self.now label }
         ensures within { is_some result ≡ true → label < 128 }

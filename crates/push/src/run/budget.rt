@@ -14,15 +14,12 @@ impl Run {
         ensures run { run_state result ≡ begun program values }
         ensures same_program { result.program ≡ program }
     {
-        let status = if program.len() == 0 {
-            Status::Halted
-        } else {
-            Status::Going
-        };
+        let state = State::new(values);
+        let status = state.status_unless_at_exit(&program, Status::Going);
         Run {
             program,
             status,
-            state: State::new(values),
+            state,
         }
     }
 
@@ -59,11 +56,7 @@ impl Run {
     pub fn finish(self) -> (Status, Program, [i32; VARIABLES])
         ensures { result ≡ (self.status, self.program, self.state.values) }
     {
-        let Run {
-            status,
-            program,
-            state: State { values, .. },
-        } = self;
-        (status, program, values)
+        let values = self.state.values;
+        (self.status, self.program, values)
     }
 }

@@ -39,7 +39,7 @@ impl State {
     }
 
     // Halted at the exit, and otherwise what is passed.
-    fn status_unless_at_exit(&self, program: &Program, otherwise: Status) -> Status
+    pub(super) fn status_unless_at_exit(&self, program: &Program, otherwise: Status) -> Status
         ensures { result ≡ (if nat_eq self.now.label (length program.now) then Halted else otherwise) }
     {
         if self.label == program.len() {
