@@ -23,23 +23,8 @@ impl Run {
         }
     }
 
-    // Makes steps until the run stops or so many are made, and answers how many.
-    #[tactic(auto, using(crate::proofs::RunFacts::run_stopped))]
-    fn make_steps(&mut self, budget: u32) -> u32
-        ensures run { (result, run_state self.new) ≡ run self.old.program budget (run_state self.old) }
-        ensures same_program { self.new.program ≡ self.old.program }
-    {
-        match self.status {
-            Status::Going => {
-                let (status, steps) = self.state.steps(&self.program, budget);
-                self.status = status;
-                steps
-            }
-            Status::Halted | Status::Faulted => 0,
-        }
-    }
-
     // Makes steps until the run stops or so many are made, and answers the status and how many.
+    #[tactic(auto, using(crate::proofs::RunFacts::run_stopped))]
     pub fn advance(&mut self, budget: u32) -> (Status, u32)
         ensures run { (result.1, run_state self.new) ≡ run self.old.program budget (run_state self.old) }
         ensures status { result.0 ≡ (run_state self.new).status }
@@ -48,7 +33,14 @@ impl Run {
         ensures new_runs_are_true { NewRunsAreTrue }
         ensures steps_follow_the_rules { StepFollowsTheRules }
     {
-        let steps = self.make_steps(budget);
+        let steps = match self.status {
+            Status::Going => {
+                let (status, steps) = self.state.steps(&self.program, budget);
+                self.status = status;
+                steps
+            }
+            Status::Halted | Status::Faulted => 0,
+        };
         (self.status, steps)
     }
 
