@@ -1,5 +1,3 @@
 pub mod KindFacts
-pub mod Fetches
-pub mod StackFacts
 pub mod StepFacts
 pub mod RunFacts

@@ -1,13 +1,13 @@
 -- The run of a budget, step by step, and what it promises of whole runs. Assumes nothing.
 use Rattle.std.proofs.Common.{◌≡◌, ℕ, zero, suc, ◌+◌, ◌-◌, ◌<◌, Bool, true, false, cond, eqb, List, [], length, Some, None, Option, sym, refl, ap, ◌∙◌, subst, arith}
 use Rattle.std.proofs.lemmas.Bool.{true≢false, false≢true, eqb-true}
+use Rattle.std.proofs.lemmas.Option.{none-some, slice_get_past}
 use Rattle.push.specs.declared.instruction.Instruction.{Instruction}
 use Rattle.push.specs.Machine.{Machine, at, step, perform, ◌⊢◌⟶◌}
 use Rattle.push.specs.declared.status.Status.{Status}
 use Rattle.push.specs.declared.status.Status.TheVariants.{Going, Halted, Faulted}
 use Rattle.push.specs.Run.{RunState, moved, one, tried, arrived, counted, run, is_going, is_halted, label_of, Steps, none, more, TrueStatus, NewRunsAreTrue, Advanced}
-use Rattle.push.proofs.Fetches.{fetch_past}
-use Rattle.push.proofs.StepFacts.{rule_steps, steps_by_rule, nothing}
+use Rattle.push.proofs.StepFacts.{rule_steps, steps_by_rule}
 
 module _ (code : List Instruction) where
   pub run_none : (r : RunState) → run code 0 r ≡ (0, r)
@@ -34,10 +34,10 @@ module _ (code : List Instruction) where
 
   -- at the exit there is no step
   no_step_at_exit : (m : Machine) → label_of m ≡ length code → step code m ≡ None
-  no_step_at_exit (at l s vs) exit = ap (λ o. perform o l s vs) (fetch_past code l (omega (arith, exit)))
+  no_step_at_exit (at l s vs) exit = ap (λ o. perform o l s vs) (slice_get_past code l (omega (arith, exit)))
 
   steps_before_exit : (m n : Machine) (b : Bool) → eqb (label_of m) (length code) ≡ b → step code m ≡ Some n → b ≡ false
-  steps_before_exit m n true exit e = absurd (nothing (sym (no_step_at_exit m (eqb-true (label_of m) (length code) exit)) ∙ e))
+  steps_before_exit m n true exit e = absurd (none-some n (sym (no_step_at_exit m (eqb-true (label_of m) (length code) exit)) ∙ e))
   steps_before_exit m n false before e = refl
 
   -- a turn of the loop that makes a step, and one that makes none
@@ -100,7 +100,7 @@ module _ (code : List Instruction) where
             ap (λ r. r.machine) (sym same),
             λ t. subst (TrueStatus code) same (record {
               halted_at_the_exit = t.halted_at_the_exit;
-              faulted_without_a_rule = λ _ n rule. nothing (sym stuck ∙ rule_steps code rule);
+              faulted_without_a_rule = λ _ n rule. absurd (none-some n (sym stuck ∙ rule_steps code rule));
             }),
           )
       by_step (Some n) made e = absurd (true≢false (ap (λ p. p.0) e))

@@ -1,18 +1,14 @@
 -- The function `step` follows the rules, and only them. Assumes nothing.
-use Rattle.std.proofs.Common.{◌≡◌, ℕ, ◌+◌, ◌<◌, Bool, true, false, cond, ltb, List, [], ◌∷◌, length, ℤ, is_some, Some, None, Option, refl, ap, ◌∙◌, subst}
-use Rattle.std.proofs.lemmas.Bool.{lt-ltb, ltb-true, cond-true, false≢true}
+use Rattle.std.proofs.Common.{◌≡◌, ℕ, ◌+◌, ◌<◌, Bool, true, false, cond, ltb, List, [], ◌∷◌, length, ℤ, Some, None, Option, refl, ap, ◌∙◌, subst}
+use Rattle.std.proofs.lemmas.Bool.{lt-ltb, ltb-true, cond-true}
+use Rattle.std.proofs.lemmas.Option.{none-some, same_Some}
 use Rattle.push.specs.declared.instruction.Instruction.{Instruction}
 use Rattle.push.specs.declared.instruction.Instruction.TheVariants.{Load, Store, Push, Add, Sub, Eq, Less, Not, Goto, GotoF}
 use Rattle.push.specs.declared.value.Value.{Value}
 use Rattle.push.specs.declared.value.Value.TheVariants.{Int, Flag}
 use Rattle.push.specs.Code.{fetch}
-use Rattle.push.specs.Machine.{Machine, at, ◌⊢◌⟶◌, load, store, push, add, sub, eq, lower, turn, goto, branch, perform, step, pushed, StepFollowsTheRules}
-
-pub nothing : {X : Type 0} {Y : Type 0} {x : X} → None ≡ Some x → Y
-nothing e = absurd (false≢true (ap is_some e))
-
-pub some_same : {X : Type 0} {x y : X} → Some x ≡ Some y → x ≡ y
-some_same e = cc e
+use Rattle.push.specs.Machine.{Machine, at, ◌⊢◌⟶◌, load, store, push, add, sub, eq, lower, turn, goto, branch, integers_on, pushed, combined, perform, step, StepFollowsTheRules}
+use Rattle.push.specs.Numbers.{sum, difference, same, less}
 
 module _ (code : List Instruction) where
   room : (x : Value) (l : ℕ) (s : List Value) (vs : List ℤ) → length s < 8 → pushed x l s vs ≡ Some (at (l + 1) (x ∷ s) vs)
@@ -33,48 +29,39 @@ module _ (code : List Instruction) where
 
   kept : {X : Type 0} (b : Bool) (x : Option X) (n : X) → cond b x None ≡ Some n → (b ≡ true) × (x ≡ Some n)
   kept true x n e = (refl, e)
-  kept false x n e = nothing e
+  kept false x n e = absurd (none-some n e)
 
   by_rule : {m n : Machine} {o : Machine} → code ⊢ m ⟶ n → Some n ≡ Some o → code ⊢ m ⟶ o
-  by_rule {m} r e = subst (λ k. code ⊢ m ⟶ k) (some_same e) r
+  by_rule {m} r e = subst (λ k. code ⊢ m ⟶ k) (same_Some _ _ e) r
+
+  combined_by_rule : (f : ℤ → ℤ → Value) (l : ℕ) (s : List Value) (vs : List ℤ) (n : Machine) → ((t u : ℤ) (s : List Value) → code ⊢ at l (Int t ∷ Int u ∷ s) vs ⟶ at (l + 1) (f u t ∷ s) vs) → combined f (integers_on s) l s vs ≡ Some n → code ⊢ at l s vs ⟶ n
+  combined_by_rule f l [] vs n rule e = absurd (none-some n e)
+  combined_by_rule f l (Flag b ∷ s) vs n rule e = absurd (none-some n e)
+  combined_by_rule f l (Int t ∷ []) vs n rule e = absurd (none-some n e)
+  combined_by_rule f l (Int t ∷ Flag b ∷ s) vs n rule e = absurd (none-some n e)
+  combined_by_rule f l (Int t ∷ Int u ∷ s) vs n rule e = by_rule (rule t u s) e
 
   -- what `step` makes is by a rule
   performed : (i : Option Instruction) (l : ℕ) (s : List Value) (vs : List ℤ) (n : Machine) → fetch code l ≡ i → perform i l s vs ≡ Some n → code ⊢ at l s vs ⟶ n
-  performed None l s vs n i e = nothing e
+  performed None l s vs n i e = absurd (none-some n e)
   performed (Some (Load v)) l s vs n i e =
       let known = kept (ltb v 32) _ n e in
       let free = kept (ltb (length s) 8) _ n known.1 in
       by_rule (load i (ltb-true v 32 known.0) (ltb-true (length s) 8 free.0)) free.1
-  performed (Some (Store v)) l [] vs n i e = nothing e
-  performed (Some (Store v)) l (Flag b ∷ s) vs n i e = nothing e
+  performed (Some (Store v)) l [] vs n i e = absurd (none-some n e)
+  performed (Some (Store v)) l (Flag b ∷ s) vs n i e = absurd (none-some n e)
   performed (Some (Store v)) l (Int t ∷ s) vs n i e = let known = kept (ltb v 32) _ n e in by_rule (store i (ltb-true v 32 known.0)) known.1
   performed (Some (Push x)) l s vs n i e = let free = kept (ltb (length s) 8) _ n e in by_rule (push i (ltb-true (length s) 8 free.0)) free.1
-  performed (Some Add) l [] vs n i e = nothing e
-  performed (Some Add) l (Flag b ∷ s) vs n i e = nothing e
-  performed (Some Add) l (Int t ∷ []) vs n i e = nothing e
-  performed (Some Add) l (Int t ∷ Flag b ∷ s) vs n i e = nothing e
-  performed (Some Add) l (Int t ∷ Int u ∷ s) vs n i e = by_rule (add i) e
-  performed (Some Sub) l [] vs n i e = nothing e
-  performed (Some Sub) l (Flag b ∷ s) vs n i e = nothing e
-  performed (Some Sub) l (Int t ∷ []) vs n i e = nothing e
-  performed (Some Sub) l (Int t ∷ Flag b ∷ s) vs n i e = nothing e
-  performed (Some Sub) l (Int t ∷ Int u ∷ s) vs n i e = by_rule (sub i) e
-  performed (Some Eq) l [] vs n i e = nothing e
-  performed (Some Eq) l (Flag b ∷ s) vs n i e = nothing e
-  performed (Some Eq) l (Int t ∷ []) vs n i e = nothing e
-  performed (Some Eq) l (Int t ∷ Flag b ∷ s) vs n i e = nothing e
-  performed (Some Eq) l (Int t ∷ Int u ∷ s) vs n i e = by_rule (eq i) e
-  performed (Some Less) l [] vs n i e = nothing e
-  performed (Some Less) l (Flag b ∷ s) vs n i e = nothing e
-  performed (Some Less) l (Int t ∷ []) vs n i e = nothing e
-  performed (Some Less) l (Int t ∷ Flag b ∷ s) vs n i e = nothing e
-  performed (Some Less) l (Int t ∷ Int u ∷ s) vs n i e = by_rule (lower i) e
-  performed (Some Not) l [] vs n i e = nothing e
-  performed (Some Not) l (Int t ∷ s) vs n i e = nothing e
+  performed (Some Add) l s vs n i e = combined_by_rule (λ u t. Int (sum u t)) l s vs n (λ t u s. add i) e
+  performed (Some Sub) l s vs n i e = combined_by_rule (λ u t. Int (difference u t)) l s vs n (λ t u s. sub i) e
+  performed (Some Eq) l s vs n i e = combined_by_rule (λ u t. Flag (same u t)) l s vs n (λ t u s. eq i) e
+  performed (Some Less) l s vs n i e = combined_by_rule (λ u t. Flag (less u t)) l s vs n (λ t u s. lower i) e
+  performed (Some Not) l [] vs n i e = absurd (none-some n e)
+  performed (Some Not) l (Int t ∷ s) vs n i e = absurd (none-some n e)
   performed (Some Not) l (Flag b ∷ s) vs n i e = by_rule (turn i) e
   performed (Some (Goto m)) l s vs n i e = by_rule (goto i) e
-  performed (Some (GotoF m j)) l [] vs n i e = nothing e
-  performed (Some (GotoF m j)) l (Int t ∷ s) vs n i e = nothing e
+  performed (Some (GotoF m j)) l [] vs n i e = absurd (none-some n e)
+  performed (Some (GotoF m j)) l (Int t ∷ s) vs n i e = absurd (none-some n e)
   performed (Some (GotoF m j)) l (Flag b ∷ s) vs n i e = by_rule (branch i) e
 
   pub steps_by_rule : (m n : Machine) → step code m ≡ Some n → code ⊢ m ⟶ n

@@ -1,7 +1,6 @@
-ghost use Rattle.std.specs.Prelude.{◌≡◌, ◌≤◌, length};
-
 use crate::INSTRUCTIONS;
 use crate::instruction::Instruction;
+use std::marker::Model;
 
 mod table;
 
@@ -10,8 +9,18 @@ mod table;
 pub struct Program {
     table: [Instruction; INSTRUCTIONS],
     len: usize,
-    ghost sized: { length table ≡ 128 },
-    ghost within: { len ≤ 128 },
+}
+
+// In a clause a program is the list of its instructions.
+impl Model for Program {
+    ghost use Rattle.std.specs.Prelude.{◌≡◌, ◌≤◌, List, length, take};
+    ghost use Rattle.push.specs.declared.instruction.Instruction.{Instruction};
+
+    ghost Value = { List Instruction };
+
+    ghost view = { λ p. take p.len p.table };
+
+    ghost invariant = { λ p. (length p.table ≡ 128) × (p.len ≤ 128) };
 }
 
 // There are 128 instructions already.

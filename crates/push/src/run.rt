@@ -1,5 +1,4 @@
 ghost use Rattle.std.specs.Prelude.{◌≡◌, length, nat_eq};
-ghost use Rattle.push.specs.Code.{code};
 ghost use Rattle.push.specs.Run.{is_halted};
 
 use crate::VARIABLES;
@@ -16,7 +15,7 @@ pub struct Run {
     program: Program,
     status: Status,
     state: State,
-    ghost halted_at_the_exit: { is_halted status ≡ nat_eq state.label (length (code program)) },
+    ghost halted_at_the_exit: { is_halted status ≡ nat_eq state.label (length program) },
 }
 
 // What a step reads and changes: where the run stands, its stack, and the values of the variables.

@@ -1,5 +1,4 @@
 ghost use Rattle.std.specs.Prelude.{◌≡◌, ◌+◌, ◌<◌, ◌≤◌, true, [], ◌∷◌, length, drop, is_some, nat_lt};
-ghost use Rattle.push.specs.Of.{held};
 
 use super::Stack;
 use crate::STACK_PLACES;
@@ -7,7 +6,7 @@ use crate::value::Value;
 
 impl Stack {
     pub(crate) fn empty() -> Self
-        ensures { held result ≡ [] }
+        ensures { result ≡ [] }
     {
         Stack {
             top: STACK_PLACES,
@@ -16,25 +15,24 @@ impl Stack {
     }
 
     // Whether one more place is free.
-    #[tactic(auto, using(crate::proofs::StackFacts::depth))]
     pub(crate) fn has_room(&self) -> bool
-        ensures { result ≡ nat_lt (length (held self.now)) 8 }
+        ensures { result ≡ nat_lt (length self.now) 8 }
     {
         self.top > 0
     }
 
     // The places that are in use, top first.
     pub(crate) fn places(&self) -> &[Value]
-        ensures { result.now ≡ held self.now }
+        ensures places { result.now ≡ self.now }
+        ensures bound { length self.now ≤ 8 }
     {
         &self.items[self.top..]
     }
 
     // Pops so many places and pushes a value.
-    #[tactic(auto, using(crate::proofs::StackFacts::depth))]
     pub(crate) fn put(&mut self, popped: usize, value: Value)
-        requires { (popped ≤ length (held self.old)) × (length (held self.old) < 8 + popped) }
-        ensures { held self.new ≡ value ∷ drop popped (held self.old) }
+        requires { (popped ≤ length self.old) × (length self.old < 8 + popped) }
+        ensures { self.new ≡ value ∷ drop popped self.old }
     {
         // The sum is below STACK_PLACES. With the remainder the compiler knows it too, and keeps the run's other fields in registers.
         let top = (self.top + popped - 1) % STACK_PLACES;
@@ -44,8 +42,8 @@ impl Stack {
 
     // Pops the top.
     pub(crate) fn pop(&mut self)
-        requires { 1 ≤ length (held self.old) }
-        ensures { held self.new ≡ drop 1 (held self.old) }
+        requires { 1 ≤ length self.old }
+        ensures { self.new ≡ drop 1 self.old }
     {
         self.top += 1;
     }
