@@ -1,2 +1,3 @@
 pub mod AllBelow
+pub mod FaultFacts
 pub mod Stacks

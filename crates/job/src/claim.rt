@@ -1,9 +1,11 @@
-ghost use Rattle.std.specs.Prelude.{◌≡◌, slice_index_or};
+ghost use Rattle.std.specs.Prelude.{◌≡◌, ◌+◌, ◌*◌, cond, slice_index, slice_index_or};
+ghost use Rattle.job.specs.Faults.{record_answer};
 ghost use Rattle.job.specs.Layout.{claim_record};
-ghost use Rattle.job.specs.Records.{all_below, like_a_place, like_a_claim, claim_in, place_in, kind as kind_of, level as level_of};
+ghost use Rattle.job.specs.Records.{all_below, two, like_a_place, like_a_claim, claim_in, place_in, kind as kind_of, level as level_of};
 ghost use Rattle.job.specs.declared.claim.Place.TheVariants.{IntegerAt};
 ghost use Rattle.job.specs.Of.{sizes, claim_says, claimed};
 
+use crate::fault::RecordFault;
 use crate::part::{byte, tail, two, zeros};
 use crate::reader::Job;
 use push::Kind;
@@ -42,16 +44,22 @@ impl Place {
     }
 }
 
+// The kind byte and the level of a stack place of a claim record.
+fn place_parts(record: &[u8], place: u16) -> (u8, u16)
+    ensures kind { result.0 ≡ slice_index «record».now (4 + 3 * place) }
+    ensures level { result.1 ≡ two «record».now (5 + 3 * place) }
+{
+    let at = 4 + 3 * usize::from(place);
+    (byte(record, at), two(record, at + 1))
+}
+
 // A stack place of a claim record.
 fn place_in(record: &[u8], place: u16) -> Place
     ensures { result ≡ place_in «record».now place }
 {
-    let at = 3 * u32::from(place);
-    let level = two(record, 5 + at);
-    if byte(record, (4 + at) as usize) == 0 {
-        Place::IntegerAt(level)
-    } else {
-        Place::BooleanAt(level)
+    match place_parts(record, place) {
+        (0, level) => Place::IntegerAt(level),
+        (_, level) => Place::BooleanAt(level),
     }
 }
 
@@ -59,8 +67,8 @@ fn place_in(record: &[u8], place: u16) -> Place
 fn is_place(span: u32, record: &[u8], place: u16) -> bool
     ensures { result ≡ like_a_place span «record».now place }
 {
-    let at = 3 * u32::from(place);
-    byte(record, (4 + at) as usize) <= 1 && u32::from(two(record, 5 + at)) < span
+    let (kind, level) = place_parts(record, place);
+    kind <= 1 && u32::from(level) < span
 }
 
 // Whether the first stack places of a claim record are like their description.
@@ -68,6 +76,23 @@ fn are_places(span: u32, record: &[u8], depth: u8) -> bool
     ensures { result ≡ all_below (like_a_place span «record».now) depth }
 {
     (0..u16::from(depth)).all(|place| is_place(span, record, place))
+}
+
+// Whether a claim record is like its description, over a lattice of so many levels and with so many places.
+fn is_claim(span: u32, places: u8, record: &[u8]) -> bool
+    ensures { result ≡ like_a_claim span places «record».now }
+{
+    let depth = byte(record, 1);
+    match byte(record, 0) {
+        0 => zeros(record),
+        1 => {
+            depth <= places
+                && u32::from(two(record, 2)) < span
+                && are_places(span, record, depth)
+                && zeros(tail(record, 4 + 3 * usize::from(depth)))
+        }
+        _ => false,
+    }
 }
 
 impl Claim<'_> {
@@ -84,21 +109,15 @@ impl Claim<'_> {
 }
 
 impl<'a> Job<'a> {
-    // Whether a claim record is like its description, over a lattice of so many levels.
-    pub fn has_claim_record(&self, span: u32, label: u16) -> bool
-        ensures { result ≡ like_a_claim span (sizes self.now).places (claim_record self.now.bytes.now (sizes self.now) label) }
+    // Sees that a claim record is like its description, over a lattice of so many levels.
+    pub fn check_claim_record(&self, span: u32, label: u16) -> Result<(), RecordFault>
+        ensures { record_answer result ≡ cond (like_a_claim span (sizes self.now).places (claim_record self.now.bytes.now (sizes self.now) label)) 0 9 }
     {
         let (_, record) = self.claim_record(label);
-        let depth = byte(record, 1);
-        match byte(record, 0) {
-            0 => zeros(record),
-            1 => {
-                depth <= self.places
-                    && u32::from(two(record, 2)) < span
-                    && are_places(span, record, depth)
-                    && zeros(tail(record, 4 + 3 * usize::from(depth)))
-            }
-            _ => false,
+        if is_claim(span, self.places, record) {
+            Ok(())
+        } else {
+            Err(RecordFault::Claim)
         }
     }
 

@@ -1,11 +1,36 @@
 ghost use Rattle.std.specs.Prelude.{◌≡◌};
 ghost use Rattle.job.specs.Layout.{instruction_record};
-ghost use Rattle.job.specs.Records.{instruction_in, instruction_read};
+ghost use Rattle.job.specs.Records.{decoded, instruction_in, instruction_read};
 ghost use Rattle.job.specs.Of.{sizes};
 
 use crate::fault::RecordFault;
 use crate::reader::Job;
-use push::Instruction;
+use push::{Instruction, VARIABLES};
+
+// The instruction of an operation, a junction byte and an operand, where labels go up to the exit.
+fn decoded(exit: u8, operation: u8, junction: u8, operand: i32) -> Option<Instruction>
+    ensures { result ≡ decoded exit operation junction operand }
+{
+    let number = u8::try_from(operand).ok();
+    let variable = number.filter(|number| usize::from(*number) < VARIABLES);
+    let label = number.filter(|number| *number <= exit);
+    // The format's numbers are told apart here alone. A number by itself is no kind: what stands beside it has to fit.
+    match (operation, junction, operand) {
+        (1, 0, _) => variable.map(Instruction::Load),
+        (2, 0, _) => variable.map(Instruction::Store),
+        (3, 0, _) => Some(Instruction::Push(operand)),
+        (4, 0, 0) => Some(Instruction::Add),
+        (5, 0, 0) => Some(Instruction::Sub),
+        (6, 0, 0) => Some(Instruction::Eq),
+        (7, 0, 0) => Some(Instruction::Less),
+        (8, 0, 0) => Some(Instruction::Not),
+        (9, 0, _) => label.map(Instruction::Goto),
+        (10, _, _) if junction <= exit => {
+            label.map(|target| Instruction::GotoF { target, junction })
+        }
+        _ => None,
+    }
+}
 
 // What an instruction record says, where labels go up to the exit.
 fn instruction_in(exit: u8, record: &[u8]) -> Result<Instruction, RecordFault>
@@ -15,27 +40,7 @@ fn instruction_in(exit: u8, record: &[u8]) -> Result<Instruction, RecordFault>
         return Err(RecordFault::Instruction);
     };
     let operand = i32::from_le_bytes([*b0, *b1, *b2, *b3]);
-    let plain = *junction == 0;
-    let variable = 0 <= operand && operand < 32;
-    let label = 0 <= operand && operand <= i32::from(exit);
-    let joins = *junction <= exit;
-    // The format's numbers are told apart here alone. A number by itself is no kind: what stands beside it has to fit.
-    match *operation {
-        1 if plain && variable => Ok(Instruction::Load(operand as u8)),
-        2 if plain && variable => Ok(Instruction::Store(operand as u8)),
-        3 if plain => Ok(Instruction::Push(operand)),
-        4 if plain && operand == 0 => Ok(Instruction::Add),
-        5 if plain && operand == 0 => Ok(Instruction::Sub),
-        6 if plain && operand == 0 => Ok(Instruction::Eq),
-        7 if plain && operand == 0 => Ok(Instruction::Less),
-        8 if plain && operand == 0 => Ok(Instruction::Not),
-        9 if plain && label => Ok(Instruction::Goto(operand as u8)),
-        10 if joins && label => Ok(Instruction::GotoF {
-            target: operand as u8,
-            junction: *junction,
-        }),
-        _ => Err(RecordFault::Instruction),
-    }
+    decoded(exit, *operation, *junction, operand).ok_or(RecordFault::Instruction)
 }
 
 impl Job<'_> {

@@ -24,11 +24,11 @@ pub(crate) fn byte(bytes: &[u8], at: usize) -> u8
 }
 
 // A number of two bytes, lower byte first.
-pub(crate) fn two(bytes: &[u8], at: u32) -> u16
+pub(crate) fn two(bytes: &[u8], at: usize) -> u16
     ensures { result ≡ two_of bytes.now at }
 {
-    let at = at as usize;
-    u16::from_le_bytes([byte(bytes, at), byte(bytes, at + 1)])
+    let rest = tail(bytes, at);
+    u16::from_le_bytes([byte(rest, 0), byte(rest, 1)])
 }
 
 // Whether every byte is zero.

@@ -4,6 +4,7 @@ ghost use Rattle.job.specs.Of.{sizes, sizes_read};
 
 use crate::fault::ReadFault;
 use crate::part::part;
+use push::{INSTRUCTIONS, STACK_PLACES};
 
 // A job over the caller's bytes, with the two sizes that it opens with.
 #[derive(Clone, Copy)]
@@ -24,10 +25,10 @@ impl<'a> Job<'a> {
         };
         let instructions = u16::from_le_bytes([*n0, *n1]);
         let places = u16::from_le_bytes([*d0, *d1]);
-        if instructions > 128 {
+        if usize::from(instructions) > INSTRUCTIONS {
             return Err(ReadFault::TooManyInstructions);
         }
-        if places > 8 {
+        if usize::from(places) > STACK_PLACES {
             return Err(ReadFault::TooManyPlaces);
         }
         if rest.len() != usize::from(instructions) * (10 + 3 * usize::from(places)) {

@@ -2,7 +2,7 @@ ghost use Rattle.std.specs.Prelude.{◌≡◌, ℕ, ◌&&◌, nat_le};
 ghost use Rattle.lattice.specs.Kinds.{ladder as ladder_order, levels};
 ghost use Rattle.lattice.specs.LadderLaws.{ladder_laws};
 
-use crate::lattice::{Lattice, among_levels, are_levels};
+use crate::lattice::Lattice;
 
 // Grades in the order of the numbers.
 #[derive(Clone, Copy, Debug, PartialEq, Eq)]
@@ -30,15 +30,15 @@ impl Lattice for Ladder {
     }
 
     fn at_most(&self, a: u16, b: u16) -> bool {
-        are_levels(self.span(), a, b) && a <= b
+        self.both_levels(a, b).is_some_and(|(a, b)| a <= b)
     }
 
     fn join(&self, a: u16, b: u16) -> u16 {
-        among_levels(self.span(), a, b, u16::max)
+        self.both_levels(a, b).map_or(0, |(a, b)| a.max(b))
     }
 
     fn meet(&self, a: u16, b: u16) -> u16 {
-        among_levels(self.span(), a, b, u16::min)
+        self.both_levels(a, b).map_or(0, |(a, b)| a.min(b))
     }
 
     fn lowest(&self) -> u16 {

@@ -1,4 +1,4 @@
-ghost use Rattle.std.specs.Prelude.{◌≡◌, nat_lt, MatchBool};
+ghost use Rattle.std.specs.Prelude.{◌≡◌, Some, None, nat_lt, cond};
 ghost use Rattle.lattice.specs.Order.{Order, Laws};
 ghost use Rattle.lattice.specs.Kinds.{levels};
 
@@ -37,24 +37,12 @@ pub trait Lattice {
         u32::from(code) < self.span()
     }
 
-    ghost lawful: { (s : Self) → Laws (order s) };
-}
-
-// Whether both codes are levels of a lattice with this span.
-pub(crate) fn are_levels(span: u32, a: u16, b: u16) -> bool
-    ensures { result ≡ levels span a b }
-{
-    u32::from(a) < span && u32::from(b) < span
-}
-
-// The answer among the levels of a lattice with this span; 0 where one of the codes is no level.
-pub(crate) fn among_levels<F: FnOnce(u16, u16) -> u16>(span: u32, a: u16, b: u16, answer: F) -> u16
-    requires { F.IsAlwaysCallable answer }
-    ensures { MatchBool (levels span a b) (F.post answer a b result) (result ≡ 0) }
-{
-    if are_levels(span, a, b) {
-        answer(a, b)
-    } else {
-        0
+    // Two codes, where both are levels.
+    fn both_levels(&self, a: u16, b: u16) -> Option<(u16, u16)>
+        ensures { result ≡ cond (levels (order self.now).span a b) (Some (a, b)) None }
+    {
+        (self.is_level(a) && self.is_level(b)).then_some((a, b))
     }
+
+    ghost lawful: { (s : Self) → Laws (order s) };
 }

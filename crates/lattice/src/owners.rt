@@ -2,7 +2,7 @@ ghost use Rattle.std.specs.Prelude.{◌≡◌, ℕ, ◌&&◌, ◌==◌, bit_and}
 ghost use Rattle.lattice.specs.Kinds.{owners as owners_order, owners_span, levels};
 ghost use Rattle.lattice.specs.OwnersLaws.{owners_laws};
 
-use crate::lattice::{Lattice, among_levels, are_levels};
+use crate::lattice::Lattice;
 
 // Sets of owners: bit i of a code stands for owner i, and a set is at most each set that holds all its owners.
 #[derive(Clone, Copy, Debug, PartialEq, Eq)]
@@ -27,20 +27,20 @@ impl Lattice for Owners {
     ghost lawful = { λ s. owners_laws s.count };
 
     fn span(&self) -> u32 {
-        // A checked shift would refuse from 32 owners on, and not from 17.
+        // A code has 16 bits.
         if self.count > 16 { 0 } else { 1 << self.count }
     }
 
     fn at_most(&self, a: u16, b: u16) -> bool {
-        are_levels(self.span(), a, b) && a & b == a
+        self.both_levels(a, b).is_some_and(|(a, b)| a & b == a)
     }
 
     fn join(&self, a: u16, b: u16) -> u16 {
-        among_levels(self.span(), a, b, |a, b| a | b)
+        self.both_levels(a, b).map_or(0, |(a, b)| a | b)
     }
 
     fn meet(&self, a: u16, b: u16) -> u16 {
-        among_levels(self.span(), a, b, |a, b| a & b)
+        self.both_levels(a, b).map_or(0, |(a, b)| a & b)
     }
 
     fn lowest(&self) -> u16 {

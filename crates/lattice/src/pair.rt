@@ -22,16 +22,16 @@ impl<A: Lattice, B: Lattice> Pair<A, B> {
     }
 
     // The two parts of a level; none of a code that is no level.
+    #[tactic(auto, using(crate::specs::PairLaws::first_part))]
     fn parts(&self, code: u16) -> Option<(u16, u16)>
         ensures value { result ≡ parts_of (A.Lattice.order self.now.first) (B.Lattice.order self.now.second) code }
         ensures levels { PartsAreLevels (A.Lattice.order self.now.first) (B.Lattice.order self.now.second) result }
     {
-        if !self.is_level(code) {
-            return None;
-        }
-        let row = self.second.span();
-        let code = u32::from(code);
-        Some(((code / row) as u16, (code % row) as u16))
+        self.is_level(code).then(|| {
+            let row = self.second.span();
+            let code = u32::from(code);
+            ((code / row) as u16, (code % row) as u16)
+        })
     }
 
     // The level of two parts.
