@@ -2,7 +2,6 @@
 #![tactic(auto)]
 
 ghost use Rattle.std.specs.Prelude.{◌≡◌, IfOk};
-ghost use Rattle.push.specs.Code.{code};
 ghost use Rattle.push.specs.Run.{begun, run};
 ghost use Rattle.checker.specs.Faults.{mount_answer};
 ghost use Rattle.boundary.specs.Answers.{verdict_on, code_in, zeros, mount_number, end_number, run_number};
@@ -14,14 +13,14 @@ use push::{Program, Run, VARIABLES};
 // The verdict over a ladder of 16 with every variable at level 0, and the program where it is accepted.
 fn judge(job: &[u8]) -> Result<Program, MountFault>
     ensures verdict { mount_answer result ≡ verdict_on job.now }
-    ensures program { IfOk result (λ p. code p ≡ code_in job.now) }
+    ensures program { IfOk result (λ p. p ≡ code_in job.now) }
 {
     check(&Ladder::new(16), &[0; VARIABLES], job)
 }
 
 // Runs a program from values that are all 0: the status's number × 2^32 + the steps that were made.
 fn run_from_zeros(program: Program, budget: u32) -> u64
-    ensures { result ≡ end_number (run (code program) budget (begun (code program) zeros)) }
+    ensures { result ≡ end_number (run program budget (begun program zeros)) }
 {
     let mut run = Run::begin(program, [0; VARIABLES]);
     let (status, steps) = run.advance(budget);

@@ -10,6 +10,7 @@ use Rattle.push.specs.Language.{pops, pushes, optional, begins, successors}
 use Rattle.job.specs.declared.claim.Place.{Place}
 use Rattle.job.specs.declared.claim.Place.TheVariants.{IntegerAt, BooleanAt}
 use Rattle.job.specs.Records.{Claimed, kind, all_below}
+use Rattle.job.proofs.AllBelow.{all_below_holds, all_below_from}
 use Rattle.checker.specs.Leaving.{joined_one, leaves, level_at, all_fit_under}
 use Rattle.checker.specs.Rules.{ProgramWithClaims, exit, is_empty, claim_takes, takes, all_take, fits_its_stack, stores_upward, successors_take}
 use Rattle.checker.specs.Region.{Among, here, there, Region, region}
@@ -109,19 +110,6 @@ module _ (o : Order) (job : ProgramWithClaims) (stack : List Place) where
 
 pub decides_successors : (o : Order) (levels : List ℕ) (job : ProgramWithClaims) (label : ℕ) (c : Claimed) (i : Instruction) → Decides (successors_take o levels job label c i) (SuccessorsTake o levels job label c i)
 decides_successors o levels job label c i = (all_taken o job (leaves o levels c i) (successors i label), all_take_it o job (leaves o levels c i) (successors i label))
-
--- a test of each number below n
-all_below_holds : (f : ℕ → Bool) (n : ℕ) → all_below f n ≡ true → (k : ℕ) → k < n → f k ≡ true
-unfolding all_below
-all_below_holds f zero h k within = absurd (omega arith)
-all_below_holds f (suc n) h k within =
-    let p = and_parts (all_below f n) (f n) h in
-    ⊎_elim (λ (e : k ≡ n). ap f e ∙ p.1) (λ (ne : k ≡ n → ⊥). all_below_holds f n p.0 k (omega (arith, ne))) (cases_eq k n)
-
-all_below_from : (f : ℕ → Bool) (n : ℕ) → ((k : ℕ) → k < n → f k ≡ true) → all_below f n ≡ true
-unfolding all_below
-all_below_from f zero h = refl
-all_below_from f (suc n) h = and_from (all_below f n) (f n) (all_below_from f n (λ k w. h k (omega arith))) (h n (omega arith))
 
 surrounded : (o : Order) (job : ProgramWithClaims) (g label : ℕ) → claim_at_least o g (job.claim label) ≡ true → Surrounded o job g label
 surrounded o job g label h = by (job.claim label) refl h

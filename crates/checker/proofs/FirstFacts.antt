@@ -2,10 +2,7 @@
 use Rattle.std.proofs.Common.{◌≡◌, ℕ, suc, ◌+◌, ◌<◌, cond, eqb, ⊎_elim, sym, refl, ap, ◌∙◌, add-one, arith}
 use native.Mathlib.Decide.{le_ind}
 use Rattle.std.proofs.lemmas.Bool.{cond-true, cond-false, eq-eqb, ne_eqb, cases_eq}
-use Rattle.job.specs.declared.fault.ReadFault.TheVariants as read
-use Rattle.job.specs.declared.fault.RecordFault.{RecordFault}
-use Rattle.job.specs.declared.fault.RecordFault.TheVariants as faults
-use Rattle.job.specs.Faults.{record_number}
+use Rattle.job.proofs.FaultFacts.{read_is_some, record_is_some}
 use Rattle.checker.specs.declared.fault.MountFault.{MountFault}
 use Rattle.checker.specs.declared.fault.MountFault.TheVariants as mount
 use Rattle.checker.specs.declared.fault.Rule.TheVariants.{Entry, Stack, Store, Successor, RegionExit, RegionLevel}
@@ -36,10 +33,6 @@ module _ (rule : ℕ → ℕ) where
   pub first_found : (n m number : ℕ) → first_below rule n ≡ (0, 0) → number ≡ rule n → (number ≡ 0 → ⊥) → n < m → (number, n) ≡ first_below rule m
   first_found n m number h e some within = ap (λ k. (k, n)) e ∙ sym (found n m h (λ z. some (e ∙ z)) within)
 
-pub record_is_some : (fault : RecordFault) → record_number fault ≡ 0 → ⊥
-record_is_some faults.Instruction e = omega arith
-record_is_some faults.Claim e = omega arith
-
 -- what a label's answer tells of the rule that it answers by
 module _ (rule n : ℕ) where
   pub was_kept : ◌≡◌ {A = ℕ × ℕ} (0, 0) (cond (eqb rule 0) (0, 0) (rule, n)) → rule ≡ 0
@@ -52,10 +45,7 @@ module _ (rule n : ℕ) where
       (broken, h ∙ cond-false (eqb rule 0) (0, 0) (rule, n) (ne_eqb rule 0 broken))
 
 pub fault_is_some : (fault : MountFault) → (fault_answer fault).0 ≡ 0 → ⊥
-fault_is_some (mount.Read read.TooShort) e = omega arith
-fault_is_some (mount.Read read.TooManyInstructions) e = omega arith
-fault_is_some (mount.Read read.TooManyPlaces) e = omega arith
-fault_is_some (mount.Read read.WrongLength) e = omega arith
+fault_is_some (mount.Read fault) e = read_is_some fault e
 fault_is_some (mount.Record fault label) e = record_is_some fault e
 fault_is_some (mount.Claims Entry label) e = omega arith
 fault_is_some (mount.Claims Stack label) e = omega arith

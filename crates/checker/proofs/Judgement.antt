@@ -10,9 +10,8 @@ use Rattle.push.specs.Code.{fetch}
 use Rattle.push.specs.Language.{optional}
 use Rattle.job.specs.Layout.{Sizes, sized, opening, claim_record}
 use Rattle.job.specs.declared.fault.ReadFault.{ReadFault}
-use Rattle.job.specs.declared.fault.ReadFault.TheVariants.{TooShort, TooManyInstructions, TooManyPlaces, WrongLength}
-use Rattle.job.specs.Faults.{read_number}
 use Rattle.job.specs.Records.{Claimed, like_a_claim}
+use Rattle.job.proofs.FaultFacts.{read_is_some}
 use Rattle.checker.specs.Leaving.{level_at}
 use Rattle.checker.specs.Rules.{ProgramWithClaims, exit, is_empty, fits_its_stack, stores_upward, successors_take, rule_at, where_claimed, label_rule}
 use Rattle.checker.specs.Region.{region}
@@ -348,17 +347,11 @@ module _ (o : Order) (levels bytes : List ℕ) where
         (instruction opened a.within (λ l h. says bytes s l (a.before l h)) eight.0))
         (search_first (instruction_rule bytes s) s.instructions)
 
-  read_some : (fault : ReadFault) → read_number fault ≢ 0
-  read_some TooShort z = no_ten 3 z
-  read_some TooManyInstructions z = no_ten 4 z
-  read_some TooManyPlaces z = no_ten 5 z
-  read_some WrongLength z = no_ten 6 z
-
   verdict_judged : Outcome (verdict o levels bytes)
   verdict_judged = by (opening bytes) refl
     where
       by : (r : Result Sizes ReadFault) → opening bytes ≡ r → Outcome (sized_verdict o levels bytes r)
-      by (Err fault) e = inr (read_some fault, unopened e)
+      by (Err fault) e = inr (read_is_some fault, unopened e)
       by (Ok s) e = sized_judged s e
 
   same_sizes : (s t : Sizes) → opening bytes ≡ Ok s → opening bytes ≡ Ok t → s ≡ t

@@ -4,7 +4,7 @@ use native.Mathlib.Decide.{le_ind}
 use Rattle.std.proofs.lemmas.List.{get_or-set_same, length-set}
 use Rattle.std.proofs.lemmas.Bool.{cases_lt, cond_both, ne_eqb, eqb-false, false≢true}
 use Rattle.push.specs.declared.instruction.Instruction.{Instruction}
-use Rattle.push.proofs.Fetches.{fetch_past}
+use Rattle.std.proofs.lemmas.Option.{slice_get_past}
 use Rattle.checker.specs.Region.{from_instruction, next_labels, Among, here, there, Region, enter, onward, mark_all, spread_below, spread_times, region, MarksAreTheRegion}
 
 -- A label that is marked.
@@ -201,7 +201,7 @@ module _ (code : List Instruction) (j branch : ℕ) where
   -- a label with something after it is an instruction's
   some_after : (from label : ℕ) → Among label (next_labels code from) → from < length code
   some_after from label a =
-      ⊎_elim (λ (h : from < length code). h) (λ (h : length code ≤ from). absurd (nothing label (subst (λ o. Among label (from_instruction o from)) (fetch_past code from h) a))) (cases_lt from (length code))
+      ⊎_elim (λ (h : from < length code). h) (λ (h : length code ≤ from). absurd (nothing label (subst (λ o. Among label (from_instruction o from)) (slice_get_past code from h) a))) (cases_lt from (length code))
 
   -- every label of the region that the table has a place for is marked
   pub region_is_marked : {l : ℕ} → length code ≤ 128 → l ≤ 128 → Region code j branch l → Marked (region code j branch) l

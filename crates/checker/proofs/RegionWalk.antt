@@ -15,8 +15,8 @@ use Rattle.push.specs.Machine as rule
 use Rattle.push.specs.Machine.{Machine, at, ◌⊢◌⟶◌, step}
 use Rattle.push.specs.Run as steps
 use Rattle.push.specs.Run.{Steps, label_of}
-use Rattle.push.proofs.Fetches.{fetch_within}
-use Rattle.push.proofs.StepFacts.{some_same}
+use Rattle.std.proofs.lemmas.Option.{slice_get-get_or}
+use Rattle.std.proofs.lemmas.Option.{same_Some}
 use Rattle.job.specs.declared.claim.Place.{Place}
 use Rattle.job.specs.Records.{Claimed, level}
 use Rattle.checker.specs.Rules.{ProgramWithClaims, exit}
@@ -169,11 +169,11 @@ module _ (o : Order) (laws : Laws o) (w : ℕ) (levels : List ℕ) (graded : Lev
       let first : job.code ⊢ at l t vs ⟶ n = subst (λ q. job.code ⊢ q ⟶ n) is r in
       let below = rule_within job.code l t vs n first in
       let sur = raised l inside below in
-      let same_claim : sur.claimed ≡ c = some_same (sym sur.has ∙ has) in
+      let same_claim : sur.claimed ≡ c = same_Some _ _ (sym sur.has ∙ has) in
       let at_least : o.at_most g c.surrounding ≡ true = subst (λ d. o.at_most g d.surrounding ≡ true) same_claim sur.at_least in
       let high : o.at_most c.surrounding w ≡ true → ⊥ = λ seen. closed (laws.transitive g c.surrounding w at_least seen) in
       let i : Instruction = get_or job.code l Add in
-      let at_l : fetch job.code l ≡ Some i = fetch_within job.code l Add below in
+      let at_l : fetch job.code l ≡ Some i = slice_get-get_or job.code l Add below in
       let label = at_label o laws levels job acc l c i below has at_l in
       let leveled = acc.leveled l c below has in
       let step = hidden_step o w laws levels graded job.code c.surrounding l leveled.0 high at_l label.left leveled.1 vs sized (fits_under u f) (keeps_under o w laws u keeps) in

@@ -13,8 +13,8 @@ use Rattle.push.specs.Machine as rule
 use Rattle.push.specs.Machine.{Machine, at, ◌⊢◌⟶◌}
 use Rattle.push.specs.Run as steps
 use Rattle.push.specs.Run.{Steps, label_of, values_of}
-use Rattle.push.proofs.Fetches.{fetch_within}
-use Rattle.push.proofs.StepFacts.{some_same}
+use Rattle.std.proofs.lemmas.Option.{slice_get-get_or}
+use Rattle.std.proofs.lemmas.Option.{same_Some}
 use Rattle.job.specs.declared.claim.Place.{Place}
 use Rattle.job.specs.declared.claim.Place.TheVariants.{IntegerAt, BooleanAt}
 use Rattle.job.specs.Records.{Claimed, level}
@@ -52,7 +52,7 @@ module _ (o : Order) (laws : Laws o) (w : ℕ) (levels : List ℕ) (graded : Lev
     meet_at (junction_exit e) other_side r = pair_exit e
     meet_at (junction_claim other has f k) (junction_exit e) r = absurd (other e)
     meet_at {ps} {t = t} {t' = t'} (junction_claim {c = c} other has f k) (junction_claim {c = d} other' has' f' k') r =
-        let same_claim : d ≡ c = some_same (sym has' ∙ has) in
+        let same_claim : d ≡ c = same_Some _ _ (sym has' ∙ has) in
         pair_claim other has (meet o w laws k (subst (λ x. Keeps o w ps t x.stack t') same_claim k') f (subst (λ x. Fits x.stack t') same_claim f') r)
 
   -- Two runs that parted meet again at the junction.
@@ -121,7 +121,7 @@ module _ (o : Order) (laws : Laws o) (w : ℕ) (levels : List ℕ) (graded : Lev
       let second : job.code ⊢ at l t ws ⟶ n' = subst (λ x. job.code ⊢ x ⟶ n') right r in
       let below = rule_within job.code l s vs m' first in
       let i : Instruction = get_or job.code l Add in
-      let at_l : fetch job.code l ≡ Some i = fetch_within job.code l Add below in
+      let at_l : fetch job.code l ≡ Some i = slice_get-get_or job.code l Add below in
       let label = at_label o laws levels job acc l c i below has at_l in
       let leveled = acc.leveled l c below has in
       ⊎_elim

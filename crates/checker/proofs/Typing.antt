@@ -14,8 +14,9 @@ use Rattle.push.specs.Machine as rule
 use Rattle.push.specs.Machine.{Machine, at, ◌⊢◌⟶◌, perform, step}
 use Rattle.push.specs.Run as steps
 use Rattle.push.specs.Run.{Steps, label_of}
-use Rattle.push.proofs.Fetches.{fetch_within, fetch_past}
-use Rattle.push.proofs.StepFacts.{rule_steps, nothing, some_same}
+use Rattle.std.proofs.lemmas.Option.{slice_get-get_or, slice_get_past}
+use Rattle.std.proofs.lemmas.Option.{none-some, same_Some}
+use Rattle.push.proofs.StepFacts.{rule_steps}
 use Rattle.job.specs.declared.claim.Place.{Place}
 use Rattle.job.specs.declared.claim.Place.TheVariants.{IntegerAt, BooleanAt}
 use Rattle.job.specs.Records.{Claimed}
@@ -38,10 +39,10 @@ below_or_not a b = by (ltb a b) refl
 -- The rules apply only below the exit, and leave only one way.
 module _ (code : List Instruction) where
   pub rule_within : (l : ℕ) (s : List Value) (vs : List ℤ) (n : Machine) → code ⊢ at l s vs ⟶ n → l < length code
-  rule_within l s vs n r = ⊎_elim (λ h. h) (λ h. nothing (sym (ap (λ i. perform i l s vs) (fetch_past code l h)) ∙ rule_steps code r)) (below_or_not l (length code))
+  rule_within l s vs n r = ⊎_elim (λ h. h) (λ h. absurd (none-some n (sym (ap (λ i. perform i l s vs) (slice_get_past code l h)) ∙ rule_steps code r))) (below_or_not l (length code))
 
   pub one_way : (m n o : Machine) → code ⊢ m ⟶ n → code ⊢ m ⟶ o → n ≡ o
-  one_way m n o r q = some_same (sym (rule_steps code r) ∙ rule_steps code q)
+  one_way m n o r q = same_Some _ _ (sym (rule_steps code r) ∙ rule_steps code q)
 
 -- A stack of the claimed depth and kinds.
 pub data Fits : List Place → List Value → Type 0 where
@@ -146,7 +147,7 @@ module _ (o : Order) (laws : Laws o) (levels : List ℕ) (job : ProgramWithClaim
       strictly a b le ne = ⊎_elim (λ h. h) (λ h. absurd (ne (omega arith))) (below_or_not a b)
 
   some_instruction : (l : ℕ) → l < exit job → (i : Instruction) × (fetch job.code l ≡ Some i)
-  some_instruction l lt = (get_or job.code l Add, fetch_within job.code l Add lt)
+  some_instruction l lt = (get_or job.code l Add, slice_get-get_or job.code l Add lt)
 
   pub typed_goes : (m : Machine) → Typed m → (label_of m ≡ exit job) ⊎ ((n : Machine) × (job.code ⊢ m ⟶ n) × Typed n)
   typed_goes (at l s vs) (typed_exit e) = inl e

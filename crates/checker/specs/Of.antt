@@ -1,6 +1,5 @@
 -- The job and the lattice that the checker's rules stand on. Assumes nothing.
 use Rattle.std.specs.Prelude.{◌≡◌, ℕ, ◌<◌, cond, List, Result, ◌==◌}
-use Rattle.push.specs.Code.{code}
 use Rattle.job.specs.Layout.{claim_record}
 use Rattle.job.specs.Records.{Claimed, claim_in}
 use Rattle.job.specs.Of.{sizes, claim_says}
@@ -18,7 +17,7 @@ abbrev pub levels_of : {L : Type 0} → Rules L → List ℕ
 levels_of r = r.levels.now
 
 abbrev pub job_of : {L : Type 0} → Rules L → ProgramWithClaims
-job_of r = record { code = code r.program.now; claim = λ label. claim_in (claim_record r.job.bytes.now (sizes r.job) label) }
+job_of r = record { code = r.program.now; claim = λ label. claim_in (claim_record r.job.bytes.now (sizes r.job) label) }
 
 -- What a claimed label claims, and what leaves it.
 abbrev pub says : {L : Type 0} → Leaving L → Claimed

@@ -1,5 +1,4 @@
 ghost use Rattle.std.specs.Prelude.{◌≡◌, ◌≤◌, [], length, IfOk};
-ghost use Rattle.push.specs.Code.{code};
 ghost use Rattle.job.specs.Layout.{opening};
 ghost use Rattle.job.specs.Of.{sizes};
 ghost use Rattle.checker.specs.Faults.{mount_answer};
@@ -12,7 +11,7 @@ ghost use Rattle.checker.specs.Flow.{AcceptedJobsNeverFault, AcceptedJobsKeepClo
 
 use crate::fault::{MountFault, Rule};
 use crate::rules::Rules;
-use job::{Job, RecordFault};
+use job::Job;
 use lattice::Lattice;
 use push::Program;
 
@@ -20,7 +19,7 @@ use push::Program;
 fn decode(job: &Job) -> Result<Program, MountFault>
     requires { (sizes job.now).instructions ≤ 128 }
     ensures verdict { mount_answer result ≡ first_below (instruction_rule job.now.bytes.now (sizes job.now)) (sizes job.now).instructions }
-    ensures program { IfOk result (λ p. code p ≡ code_below job.now.bytes.now (sizes job.now) (sizes job.now).instructions) }
+    ensures program { IfOk result (λ p. p ≡ code_below job.now.bytes.now (sizes job.now) (sizes job.now).instructions) }
 {
     let mut program = Program::empty();
     for label in 0..job.exit() {
@@ -50,11 +49,8 @@ fn check_records<L: Lattice>(lattice: &L, job: &Job) -> Result<(), MountFault>
     let span = lattice.span();
     first_fault(job.exit() as u8, |label| {
         let label = u16::from(label);
-        if job.has_claim_record(span, label) {
-            Ok(())
-        } else {
-            Err(MountFault::Record(RecordFault::Claim, label))
-        }
+        job.check_claim_record(span, label)
+            .map_err(|fault| MountFault::Record(fault, label))
     })
 }
 
@@ -98,7 +94,7 @@ fn check_rules<'x, L: Lattice>(
     job: Job<'x>,
     program: &'x Program,
 ) -> Result<(), MountFault>
-    ensures { mount_answer result ≡ rules_verdict (L.Lattice.order lattice.now) levels.now (claimed_job (code program.now) job.entry.bytes.now (sizes job.entry)) }
+    ensures { mount_answer result ≡ rules_verdict (L.Lattice.order lattice.now) levels.now (claimed_job program.now job.entry.bytes.now (sizes job.entry)) }
 {
     let rules = Rules {
         lattice,
@@ -112,7 +108,7 @@ fn check_rules<'x, L: Lattice>(
 // The first rule that a job breaks, or its program.
 fn judge_bytes<L: Lattice>(lattice: &L, levels: &[u16], bytes: &[u8]) -> Result<Program, MountFault>
     ensures verdict { mount_answer result ≡ verdict_of (L.Lattice.order lattice.now) levels.now bytes.now }
-    ensures program { IfOk result (λ p. code p ≡ decoded_code bytes.now (opening bytes.now)) }
+    ensures program { IfOk result (λ p. p ≡ decoded_code bytes.now (opening bytes.now)) }
 {
     let job = Job::read(bytes)?;
     let program = decode(&job)?;
@@ -124,7 +120,7 @@ fn judge_bytes<L: Lattice>(lattice: &L, levels: &[u16], bytes: &[u8]) -> Result<
 // The verdict on a job over a lattice and the levels of the variables, and the program where it is accepted.
 pub fn check<L: Lattice>(lattice: &L, levels: &[u16], bytes: &[u8]) -> Result<Program, MountFault>
     ensures verdict { mount_answer result ≡ verdict_of (L.Lattice.order lattice.now) levels.now bytes.now }
-    ensures program { IfOk result (λ p. code p ≡ decoded_code bytes.now (opening bytes.now)) }
+    ensures program { IfOk result (λ p. p ≡ decoded_code bytes.now (opening bytes.now)) }
     ensures judged { Judged (L.Lattice.order lattice.now) levels.now bytes.now }
     ensures marks_are_the_region { MarksAreTheRegion }
     ensures accepted_jobs_never_fault { AcceptedJobsNeverFault (L.Lattice.order lattice.now) levels.now bytes.now }

@@ -1,6 +1,5 @@
 -- The plain terms of a controller, of calls and of answers. Assumes nothing.
 use Rattle.std.specs.Prelude.{◌≡◌, ℕ, ◌/◌, [], length, Some, None, Ok, Err, vec_items, Option, Result}
-use Rattle.push.specs.Code.{code}
 use Rattle.push.specs.Of.{run_state}
 use Rattle.controller.specs.State.{SetupState, ReadyState, RunningState}
 use Rattle.checker.specs.Faults.{mount_answer}
@@ -22,10 +21,10 @@ abbrev pub setup_state : {L : Type 0} → Setup L → SetupState
 setup_state s = record { levels = s.grades.levels }
 
 abbrev pub ready_state : {L : Type 0} → Ready L → ReadyState
-ready_state s = record { levels = s.grades.levels; values = s.values; program = code s.program }
+ready_state s = record { levels = s.grades.levels; values = s.values; program = s.program }
 
 abbrev pub running_state : {L : Type 0} → Running L → RunningState
-running_state s = record { levels = s.grades.levels; remembered = s.remembered; program = code s.run.program; run = run_state s.run }
+running_state s = record { levels = s.grades.levels; remembered = s.remembered; program = s.run.program; run = run_state s.run }
 
 abbrev pub call_of : Call → plain.Call
 call_of (Grade variable level) = plain.grade variable level

@@ -1,5 +1,4 @@
 ghost use Rattle.std.specs.Prelude.{◌≡◌, true, false, length, replicate, if◌then◌else◌, nat_eq, slice_index_or, slice_set};
-ghost use Rattle.push.specs.Code.{code};
 ghost use Rattle.checker.specs.Region.{next_labels, mark_all, spread_below, region as region_of};
 
 use super::{LABELS, Marks, ROUNDS};
@@ -39,7 +38,7 @@ impl Marks {
     // Marks what comes after a label, but for the junction.
     #[tactic(auto, using(crate::proofs::RegionFacts::mark_one_more))]
     fn mark_next(&mut self, program: &Program, junction: u8, label: u8)
-        ensures { self.new.at ≡ mark_all junction (next_labels (code program.now) label) self.old.at }
+        ensures { self.new.at ≡ mark_all junction (next_labels program.now label) self.old.at }
     {
         let Some(instruction) = program.fetch(usize::from(label)) else {
             return;
@@ -51,7 +50,7 @@ impl Marks {
 
     // Marks what comes after each marked label.
     fn spread(&mut self, program: &Program, junction: u8)
-        ensures { self.new.at ≡ spread_below (code program.now) junction (length (code program.now)) self.old.at }
+        ensures { self.new.at ≡ spread_below program.now junction (length program.now) self.old.at }
     {
         for label in 0..program.len() {
             if self.has(label) {
@@ -62,7 +61,7 @@ impl Marks {
 
     // The region of a branch: what can come after it before the junction.
     pub(crate) fn region(program: &Program, junction: u8, branch: u8) -> Self
-        ensures { result.at ≡ region_of (code program.now) junction branch }
+        ensures { result.at ≡ region_of program.now junction branch }
     {
         let mut marks = Marks::none();
         marks.mark_next(program, junction, branch);

@@ -1,12 +1,12 @@
 use Rattle.std.proofs.Common.{rules, ◌≡◌, ◌+◌, ◌<◌, Ok, cond, [], ◌∷◌, ◌++◌, length, sym, ap, ◌∙◌, arith, length-append}
 use Rattle.std.proofs.lemmas.Bool.{lt-ltb}
 use Rattle.std.proofs.lemmas.Result.{err_from_is_err_and}
-use Rattle.push.specs.Code.{code}
 use Rattle.job.specs.Of.{sizes}
 use Rattle.job.specs.Records.{instruction_read}
 use Rattle.checker.specs.Verdict.{instruction_at, instruction_rule, unlike_instruction}
 use Rattle.checker.proofs.DecodeFacts.{code_none, code_more, was_read, not_read, of_record}
-use Rattle.checker.proofs.FirstFacts.{first_none, first_more, first_found, record_is_some}
+use Rattle.job.proofs.FaultFacts.{record_is_some}
+use Rattle.checker.proofs.FirstFacts.{first_none, first_more, first_found}
 use Rattle.checker.proofs.judge.decode.Goals as goal
 
 pub loop-label-init : goal.loop-label-init
@@ -18,12 +18,12 @@ loop-label-preserved c =
     let bytes = job.bytes.now in
     let s = sizes job in
     let n = c.loop-label.label-counter in
-    let before = code c.loop-label.program in
+    let before = c.loop-label.program in
     let i = c.in_ok-instruction.instruction in
     let told : Ok i ≡ instruction_read (instruction_at bytes s n) = search (rules, c.map_err.ensures.cases, c.in_ok-instruction.was) in
     let read = was_read (instruction_at bytes s n) i told in
     let few : length before < 128 = omega (arith, c.loop-label.invariant.2, c.exit-label-end.ensures.value, c.requires) in
-    let added : code c.add.new.self ≡ before ++ (i ∷ []) =
+    let added : c.add.new.self ≡ before ++ (i ∷ []) =
     c.add.ensures.after ∙ ap (λ b. cond b (before ++ (i ∷ [])) before) (c.add.ensures.room ∙ lt-ltb (length before) 128 few) in (
       first_more (instruction_rule bytes s) n c.loop-label.invariant.0 (ap unlike_instruction read),
       added ∙ ap (λ is. is ++ (i ∷ [])) c.loop-label.invariant.1 ∙ sym (code_more bytes s n i read),

@@ -1,5 +1,4 @@
 use Rattle.std.proofs.Common.{◌≡◌, length}
-use Rattle.push.specs.Code.{code}
 use Rattle.job.specs.Of.{sizes}
 use Rattle.checker.specs.Verdict.{first_below, instruction_rule, code_below}
 use Rattle.checker.proofs.judge.decode.Given as goal
@@ -8,4 +7,4 @@ abbrev pub invariant-loop-label : goal.invariant-loop-label
 invariant-loop-label l =
     let bytes = l.job.bytes.now in
     let s = sizes l.job in
-    (first_below (instruction_rule bytes s) l.label-counter ≡ (0, 0)) × (code l.program ≡ code_below bytes s l.label-counter) × (length (code l.program) ≡ l.label-counter)
+    (first_below (instruction_rule bytes s) l.label-counter ≡ (0, 0)) × (l.program ≡ code_below bytes s l.label-counter) × (length l.program ≡ l.label-counter)

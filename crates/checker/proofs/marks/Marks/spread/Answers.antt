@@ -1,5 +1,4 @@
 use Rattle.std.proofs.Common.{sym, ap, ◌∙◌}
-use Rattle.push.specs.Code.{code}
 use Rattle.checker.proofs.RegionFacts.{spread_none, spread_marked, spread_unmarked}
 use Rattle.checker.proofs.marks.Marks.spread.Goals as goal
 use Rattle.checker.proofs.marks.Marks.spread.Goals.{then-has, else-has}
@@ -9,7 +8,7 @@ loop-label-init c = sym (spread_none _ _ _)
 
 pub loop-label-preserved : goal.loop-label-preserved
 loop-label-preserved c =
-    let is = code c.args.program.now in
+    let is = c.args.program.now in
     let j = c.args.junction in
     let start = c.args.self.now.at in
     let so_far = c.loop-label.self.at in

@@ -1,7 +1,6 @@
 use Rattle.std.proofs.Common.{◌≡◌}
-use Rattle.push.specs.Code.{code}
 use Rattle.checker.specs.Region.{spread_below}
 use Rattle.checker.proofs.marks.Marks.spread.Given as goal
 
 abbrev pub invariant-loop-label : goal.invariant-loop-label
-invariant-loop-label l = l.self.at ≡ spread_below (code l.program) l.junction l.label l.initial.self.at
+invariant-loop-label l = l.self.at ≡ spread_below l.program l.junction l.label l.initial.self.at
