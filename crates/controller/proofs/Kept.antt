@@ -34,11 +34,11 @@ use Rattle.controller.specs.Counts.{fault_in, stack_faults}
 -- The 32 levels are levels, or there are none.
 pub record Graded (o : Order) (levels : List ℕ) : Type 0 where
   pub sized : length levels ≡ 32
-  pub are_levels : (o.span ≡ 0) ⊎ LevelsOfVariables o levels
+  are_levels : (o.span ≡ 0) ⊎ LevelsOfVariables o levels
 
 -- A program that can be run over some levels.
 pub record Safe (o : Order) (levels : List ℕ) (program : List Instruction) : Type 0 where
-  pub never_faults : NeverFaults program
+  never_faults : NeverFaults program
   pub keeps_closed : KeepsClosed o levels program
 
 -- A run that came by the machine's steps from some values.
@@ -65,7 +65,7 @@ rule_keeps_length (rule.turn a) = refl
 rule_keeps_length (rule.goto a) = refl
 rule_keeps_length (rule.branch a) = refl
 
-pub steps_keep_length : {code : List Instruction} {k : ℕ} {m n : Machine} → Steps code k m n → length (values_of n) ≡ length (values_of m)
+steps_keep_length : {code : List Instruction} {k : ℕ} {m n : Machine} → Steps code k m n → length (values_of n) ≡ length (values_of m)
 steps_keep_length runs.none = refl
 steps_keep_length (runs.more r rest) = steps_keep_length rest ∙ rule_keeps_length r
 
@@ -74,20 +74,20 @@ steps_then {k = k} runs.none after = (k, after)
 steps_then (runs.more r rest) after = let more = steps_then rest after in (more.0 + 1, runs.more r more.1)
 
 -- A run under way has not faulted, and an advance keeps it so.
-pub no_fault : (code : List Instruction) (values : List ℤ) (r : RunState) → NeverFaults code → UnderWay code values r → r.status ≡ Faulted → ⊥
+no_fault : (code : List Instruction) (values : List ℤ) (r : RunState) → NeverFaults code → UnderWay code values r → r.status ≡ Faulted → ⊥
 no_fault code values r never way faulted =
     ⊎_elim
     (λ e. true≢false (sym (eq-eqb (label_of r.machine) (length code) e) ∙ sym way.honest.halted_at_the_exit ∙ ap is_halted faulted))
     (λ next. way.honest.faulted_without_a_rule faulted next.0 next.1)
     (never values way.count r.machine way.reached)
 
-pub goes_on : (code : List Instruction) (values : List ℤ) (r : RunState) (budget : ℕ) → UnderWay code values r → UnderWay code values (run code budget r).1
+goes_on : (code : List Instruction) (values : List ℤ) (r : RunState) (budget : ℕ) → UnderWay code values r → UnderWay code values (run code budget r).1
 goes_on code values r budget way =
     let advanced = run_advances code budget r in
     let all = steps_then way.reached advanced.machine_steps in
     record { count = all.0; reached = all.1; honest = advanced.status_stays_true way.honest }
 
-pub starts_so : (code : List Instruction) (values : List ℤ) → UnderWay code values (begun code values)
+starts_so : (code : List Instruction) (values : List ℤ) → UnderWay code values (begun code values)
 starts_so code values = record { count = 0; reached = runs.none; honest = new_runs_are_true code values }
 
 -- Acceptance has the number 0 with the label 0, and makes a program safe.
@@ -130,7 +130,7 @@ none_open o laws levels program empty w vs ws alike j k s t vs' ws' left right =
       agree = λ v hv low. let some = (laws.only_levels (get_or levels v 0) w low).0 in absurd (omega arith);
     }
 
-pub accepted_is_safe : (o : Order) → Laws o → (levels bytes : List ℕ) → Graded o levels → (verdict o levels bytes).0 ≡ 0 → Safe o levels (decoded_code bytes (opening bytes))
+accepted_is_safe : (o : Order) → Laws o → (levels bytes : List ℕ) → Graded o levels → (verdict o levels bytes).0 ≡ 0 → Safe o levels (decoded_code bytes (opening bytes))
 accepted_is_safe o laws levels bytes g z =
     record {
       never_faults = accepted_jobs_never_fault o levels bytes laws (accepted o levels bytes z);
@@ -141,7 +141,7 @@ accepted_is_safe o laws levels bytes g z =
 nothing_runs : {m n : Machine} → [] ⊢ m ⟶ n → ⊥
 nothing_runs {m = at l s vs} {n = n} r = let below = rule_within [] l s vs n r in absurd (omega arith)
 
-pub nothing_is_safe : (o : Order) (levels : List ℕ) → Safe o levels []
+nothing_is_safe : (o : Order) (levels : List ℕ) → Safe o levels []
 nothing_is_safe o levels = record { never_faults = stays; keeps_closed = closed }
   where
     stays : NeverFaults []

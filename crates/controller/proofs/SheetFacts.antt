@@ -24,7 +24,7 @@ module _ (o : Order) (s : ReadyState) (observer : ℕ) where
   unfolding open_below
   open_none = refl
 
-  pub open_more : (n : ℕ) → open_below o s observer (n + 1) ≡ open_below o s observer n + cond (is_open o s observer n) 1 0
+  open_more : (n : ℕ) → open_below o s observer (n + 1) ≡ open_below o s observer n + cond (is_open o s observer n) 1 0
   unfolding open_below
   open_more n = ap (open_below o s observer) (add-one n)
 
@@ -41,7 +41,7 @@ module _ (o : Order) (s : ReadyState) (observer : ℕ) where
   unfolding lines_below
   lines_none = refl
 
-  pub lines_more : (n : ℕ) → lines_below o s observer (n + 1) ≡ lines_below o s observer n ++ cond (is_open o s observer n) (line n (get_or s.values n (pos 0))) []
+  lines_more : (n : ℕ) → lines_below o s observer (n + 1) ≡ lines_below o s observer n ++ cond (is_open o s observer n) (line n (get_or s.values n (pos 0))) []
   unfolding lines_below
   lines_more n = ap (lines_below o s observer) (add-one n)
 
