@@ -13,16 +13,9 @@ use Rattle.push.specs.Machine.{Machine, at, ◌⊢◌⟶◌}
 use Rattle.push.specs.Run as runs
 use Rattle.push.specs.Run.{RunState, Steps, run, begun, is_halted, label_of, values_of, TrueStatus, status_number}
 use Rattle.push.proofs.RunFacts.{run_advances, new_runs_are_true}
-use Rattle.job.specs.declared.fault.ReadFault.{ReadFault}
-use Rattle.job.specs.declared.fault.ReadFault.TheVariants as read_fault
-use Rattle.job.specs.Faults.{read_number}
-use Rattle.job.specs.Records.{Claimed}
 use Rattle.job.specs.Layout.{opening}
 use Rattle.checker.specs.Verdict.{verdict, decoded_code}
-use Rattle.checker.specs.Rules.{ProgramWithClaims}
-use Rattle.checker.specs.WellClaimed as broken
-use Rattle.checker.specs.WellClaimed.{FirstBroken, LabelBreaks, BranchBreaks}
-use Rattle.checker.proofs.Judgement.{judged}
+use Rattle.checker.proofs.Judgement.{verdict_judged}
 use Rattle.checker.proofs.Typing.{below_or_not, rule_within}
 use Rattle.checker.specs.Flow.{NeverFaults, KeepsClosed, LevelsOfVariables}
 use Rattle.checker.proofs.Safety.{accepted_jobs_never_fault, accepted_jobs_keep_closed}
@@ -90,36 +83,9 @@ goes_on code values r budget way =
 starts_so : (code : List Instruction) (values : List ℤ) → UnderWay code values (begun code values)
 starts_so code values = record { count = 0; reached = runs.none; honest = new_runs_are_true code values }
 
--- Acceptance has the number 0 with the label 0, and makes a program safe.
-broken_number : (o : Order) (levels bytes : List ℕ) {number label : ℕ} → FirstBroken o levels bytes number label → number ≡ 0 → ⊥
-broken_number o levels bytes (broken.unopened {fault = f} e) z = some_fault f z
-  where
-    some_fault : (fault : ReadFault) → read_number fault ≡ 0 → ⊥
-    some_fault read_fault.TooShort z = absurd (omega arith)
-    some_fault read_fault.TooManyInstructions z = absurd (omega arith)
-    some_fault read_fault.TooManyPlaces z = absurd (omega arith)
-    some_fault read_fault.WrongLength z = absurd (omega arith)
-broken_number o levels bytes (broken.instruction a b c d) z = absurd (omega arith)
-broken_number o levels bytes (broken.claim a b c d e) z = absurd (omega arith)
-broken_number o levels bytes (broken.entry a b) z = absurd (omega arith)
-broken_number o levels bytes (broken.label_rule a b here) z = by here.broken z
-  where
-    by : {job : ProgramWithClaims} {label number : ℕ} {c : Claimed} {i : Instruction} → LabelBreaks o levels job label c i number → number ≡ 0 → ⊥
-    by (broken.stack h) z = absurd (omega arith)
-    by (broken.store h k) z = absurd (omega arith)
-    by (broken.successor h k l) z = absurd (omega arith)
-broken_number o levels bytes (broken.branch_rule a b c here) z = by here.broken z
-  where
-    by : {job : ProgramWithClaims} {label number : ℕ} {c : Claimed} {i : Instruction} → BranchBreaks o job label c i number → number ≡ 0 → ⊥
-    by (broken.exit_inside h) z = absurd (omega arith)
-    by (broken.too_low h k) z = absurd (omega arith)
-
+-- A verdict of the number 0 has the label 0.
 accepted : (o : Order) (levels bytes : List ℕ) → (verdict o levels bytes).0 ≡ 0 → verdict o levels bytes ≡ (0, 0)
-accepted o levels bytes z = by (eqb (verdict o levels bytes).1 0) refl
-  where
-    by : (t : Bool) → eqb (verdict o levels bytes).1 0 ≡ t → verdict o levels bytes ≡ (0, 0)
-    by true e = λ i. (z i, eqb-true (verdict o levels bytes).1 0 e i)
-    by false e = absurd (broken_number o levels bytes ((judged o levels bytes).refused_names_the_first (λ h. eqb-false (verdict o levels bytes).1 0 e (ap (λ p. p.1) h))) z)
+accepted o levels bytes z = ⊎_elim (λ p. p.0) (λ p. absurd (p.0 z)) (verdict_judged o levels bytes)
 
 -- Where there are no levels nothing is open, so only the number of values counts.
 none_open : (o : Order) → Laws o → (levels : List ℕ) (program : List Instruction) → o.span ≡ 0 → KeepsClosed o levels program
