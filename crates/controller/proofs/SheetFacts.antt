@@ -1,18 +1,10 @@
 -- How the count and the lines of the open variables grow with each variable. Assumes nothing.
-use Rattle.std.proofs.Common.{◌≡◌, ℕ, ℤ, zero, suc, ◌+◌, ◌-◌, ◌*◌, ◌<◌, ◌≤◌, true, false, cond, List, [], ◌++◌, length, get_or, take, drop, Option, Some, Iter, Bor, pos, sym, refl, ap, ◌∙◌, append_assoc, append-nil, add-zero, add-one, arith, length-append}
+use Rattle.std.proofs.Common.{◌≡◌, ℕ, ℤ, zero, suc, ◌+◌, ◌-◌, ◌*◌, ◌<◌, ◌≤◌, true, false, cond, List, [], ◌++◌, length, get_or, take, drop, pos, sym, refl, ap, ap₂, ◌∙◌, append_assoc, append-nil, add-zero, add-one, arith, length-append}
 use native.Mathlib.Decide.{le_ind}
 use borrow.Rule.Slice.PartMut.{put_mid}
 use Rattle.std.proofs.lemmas.List.{take_all, take_at, drop_at, drop-drop, get_or_read}
 use Rattle.std.proofs.lemmas.List.FromFn.{length-enumerate_from, get_or-enumerate_from}
 use Rattle.std.proofs.lemmas.Slice.Zip.{length-zip, get_or-zip}
-use Rattle.std.proofs.lemmas.Iterator.{zips, YieldsList-from_slice, YieldsList-from_zip}
-use Rattle.std.proofs.lemmas.Iterator.Consumers.{YieldsList-from_enumerate, YieldsList-turn}
-use Rattle.std.proofs.iter.Yields.{fronts}
-use Rattle.std.specs.declared.iter.Enumerate.{Enumerate}
-use Rattle.std.specs.declared.iter.Zip.{Zip}
-use Rattle.std.specs.Iterator.{Yields}
-use Rattle.std.specs.Iterator.Adapters.{enumerate_source, enumerate_count, enumerate_steps, zip_first, zip_second}
-use Rattle.std.specs.Slice.Iter.{iter_rest}
 use Rattle.std.proofs.lemmas.List.Sums.{sum_by_more}
 use Rattle.std.specs.List.{count_by, enumerate_from, zip}
 use Rattle.lattice.specs.Order.{Order}
@@ -83,21 +75,15 @@ module _ (o : Order) (s : ReadyState) (observer : ℕ) where
   pub room : (n : ℕ) → n < 32 → is_open o s observer n ≡ true → 5 * open_below o s observer n + 5 ≤ 5 * open_below o s observer 32
   room n h k = omega (arith, open_adds n k, open_grows (n + 1) 32 (omega arith))
 
--- A walk over the values beside the levels, with their numbers: its n-th turn is at the variable n.
-pair_at : (values : List ℤ) (levels : List ℕ) (n variable : ℕ) (value : ℤ) (level : ℕ) → (n < length (enumerate_from 0 (zip values levels))) × ((variable, (value, level)) ≡ get_or (enumerate_from 0 (zip values levels)) n (variable, (value, level))) → (variable ≡ n) × (value ≡ get_or values n (pos 0)) × (level ≡ get_or levels n 0)
-pair_at values levels n variable value level turn =
-    let pairs = zip values levels in
-    let within : n < length pairs = omega (arith, turn.0, length-enumerate_from 0 pairs) in
-    let in_values : n < length values = omega (arith, within, length-zip values levels) in
-    let in_levels : n < length levels = omega (arith, within, length-zip values levels) in
-    let found = turn.1 ∙ get_or-enumerate_from 0 pairs n (variable, (value, level)) within ∙ ap (λ pair. (0 + n, pair)) (get_or-zip values levels n (value, level) in_values in_levels) in
-    (omega (arith, ap (λ p. p.0) found), get_or_read values n value in_values (ap (λ p. p.1.0) found) (pos 0), get_or_read levels n level in_levels (ap (λ p. p.1.1) found) 0)
-
-module _ (values : List ℤ) (levels : List ℕ) (s t u : Enumerate (Zip (Iter ℤ) (Iter ℕ))) (over_values : iter_rest (zip_first (enumerate_source s)) ≡ values) (over_levels : iter_rest (zip_second (enumerate_source s)) ≡ levels) (from_none : enumerate_count s ≡ 0) (xs : List (ℕ × (Bor ℤ × Bor ℕ))) (given : Yields (enumerate_steps (zips fronts fronts)) s xs t) (r : Option (ℕ × (Bor ℤ × Bor ℕ))) (next : enumerate_steps (zips fronts fronts) t r u) where
-  pub walk_at : (variable : ℕ) (value : Bor ℤ) (level : Bor ℕ) → r ≡ Some (variable, (value, level)) → (variable ≡ length xs) × (value.now ≡ get_or values (length xs) (pos 0)) × (level.now ≡ get_or levels (length xs) 0)
-  walk_at variable value level is =
-      let road = YieldsList-from_enumerate (YieldsList-from_zip (YieldsList-from_slice values over_values) (YieldsList-from_slice levels over_levels)) from_none in
-      pair_at values levels (length xs) variable value.now level.now (YieldsList-turn road xs t given r u (variable, (value, level)) is next)
+-- The values beside the levels, with their numbers: at the place n are those of the variable n.
+pub pair_at : (values : List ℤ) (levels : List ℕ) (n : ℕ) (x : ℕ × (ℤ × ℕ)) → (n < length (enumerate_from 0 (zip values levels))) × (x ≡ get_or (enumerate_from 0 (zip values levels)) n x) → x ≡ (n, (get_or values n (pos 0), get_or levels n 0))
+pair_at values levels n x turn =
+    let within : n < length (zip values levels) = omega (arith, turn.0, length-enumerate_from 0 (zip values levels)) in
+    let both = length-zip values levels in
+    let from_none : 0 + n ≡ n = omega arith in
+    get_or_read _ n x turn.0 turn.1 (0, (pos 0, 0))
+    ∙ get_or-enumerate_from 0 (zip values levels) n _ within
+    ∙ ap₂ (λ i pair. (i, pair)) from_none (get_or-zip values levels n _ (omega (arith, both)) (omega (arith, both)))
 
 -- A line written behind what is written so far.
 written_behind : (front old ys : List ℕ) (at : ℕ) → length front ≡ at → put_mid at (at + 5 - at) (front ++ drop at old) ys ≡ (front ++ ys) ++ drop (at + 5) old
