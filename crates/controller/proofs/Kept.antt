@@ -3,6 +3,7 @@
 use Rattle.std.proofs.Common.{◌≡◌, ℕ, ◌+◌, ◌<◌, Bool, true, false, cond, eqb, ltb, ◌⊎◌, List, [], ◌∷◌, length, get_or, set, ℤ, pos, sym, refl, ap, ◌∙◌, subst, inl, inr, ⊎_elim, arith}
 use lib.ListN.{length-replicate}
 use Rattle.std.proofs.lemmas.List.{length-set, get_or-set_same, get_or-set_other, get_or-replicate}
+use Rattle.std.proofs.lemmas.List.Sums.{sum_by-cons}
 use Rattle.std.proofs.lemmas.Bool.{true≢false, eqb-true, eqb-false, ltb-true, eq-eqb}
 use Rattle.lattice.specs.Order.{Order, Laws}
 use Rattle.push.specs.declared.instruction.Instruction.{Instruction}
@@ -227,7 +228,7 @@ module _ (o : Order) (laws : Laws o) where
     where
       by : (out : Outcome) → GoodOutcome o out → ((next : State) → Good o next → stack_faults (transcript_from o (place + 1) next calls) ≡ 0) → stack_faults (after_call place out (λ next. transcript_from o (place + 1) next calls)) ≡ 0
       by disallowed good_disallowed rest = refl
-      by (allowed answer next) (good_allowed none good) rest = omega (arith, none, rest next good)
+      by (allowed answer next) (good_allowed none good) rest = omega (arith, sum_by-cons fault_in answer (transcript_from o (place + 1) next calls), none, rest next good)
 
   pub no_stack_faults : (calls : List Call) → stack_faults (transcript o calls) ≡ 0
   no_stack_faults calls = no_faults_from 0 (in_setup (new_state o)) calls (new_is_good o laws)

@@ -1,5 +1,6 @@
 -- The two counts over lists of calls, and what it means that two lists are alike for an observer. Assumes nothing.
 use Rattle.std.specs.Prelude.{◌≡◌, ℕ, ◌+◌, ◌<◌, Bool, false, cond, List, [], ◌∷◌, ◌++◌, length, ℤ, ◌==◌, slice_index}
+use Rattle.std.specs.List.{sum_by, flat_map}
 use Rattle.lattice.specs.Order.{Order}
 use Rattle.controller.specs.State.{new_state}
 use Rattle.controller.specs.Lists.{Call, grade, seal, mount, set, read, show, start, advance, end, unseal, Answer, graded, sealed, mounted, was_set, was_read, shown, started, advanced, ended, unsealed, not_allowed, State, in_setup, is_ready, is_running, Outcome, allowed, disallowed, outcome, transcript}
@@ -19,8 +20,7 @@ fault_in unsealed = 0
 fault_in (not_allowed _) = 0
 
 abbrev pub stack_faults : List Answer → ℕ
-stack_faults [] = 0
-stack_faults (answer ∷ answers) = fault_in answer + stack_faults answers
+stack_faults answers = sum_by fault_in answers
 
 -- Whether a call is a show for an observer.
 abbrev pub shows_to : ℕ → Call → Bool
@@ -88,8 +88,7 @@ end_in unsealed = []
 end_in (not_allowed _) = []
 
 abbrev pub ends : List Answer → List ℕ
-ends [] = []
-ends (answer ∷ answers) = end_in answer ++ ends answers
+ends answers = flat_map end_in answers
 
 -- The state after a call; a call that is not allowed leaves it.
 abbrev pub state_after : State → Outcome → State
