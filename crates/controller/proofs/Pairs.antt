@@ -1,7 +1,8 @@
 -- Two alike lists on controllers of their own show an observer the same. Assumes the laws of the order.
-use Rattle.std.proofs.Common.{◌≡◌, ℕ, zero, suc, ◌+◌, ◌*◌, ◌<◌, ◌≤◌, Bool, true, false, cond, eqb, ltb, List, [], ◌∷◌, ◌++◌, length, get_or, drop, set, replicate, ℤ, pos, sym, refl, ap, ◌∙◌, subst, ap₂, arith}
+use Rattle.std.proofs.Common.{◌≡◌, ℕ, zero, suc, ◌+◌, ◌*◌, ◌<◌, ◌≤◌, Bool, true, false, cond, eqb, ltb, List, [], ◌∷◌, ◌++◌, map, length, get_or, drop, set, replicate, ℤ, pos, sym, refl, ap, ◌∙◌, subst, ap₂, arith}
 use lib.ListN.{length-replicate}
 use Rattle.std.proofs.lemmas.Bool.{true≢false, false≢true, eqb-true, ltb-true, eq-eqb}
+use Rattle.std.specs.List.{zip, flat_map}
 use Rattle.lattice.specs.Order.{Order, Laws}
 use Rattle.push.specs.declared.instruction.Instruction.{Instruction}
 use Rattle.push.specs.Machine.{Machine, at}
@@ -162,13 +163,9 @@ module _ (o : Order) (laws : Laws o) (w : ℕ) where
     same_sheets : sheets w calls left ≡ sheets w others right
     same_answers : show_answers w calls left ≡ show_answers w others right
 
-  sheets_none : (calls : List Call) → sheets w calls [] ≡ []
-  sheets_none [] = refl
-  sheets_none (c ∷ calls) = refl
-
-  answers_none : (calls : List Call) → show_answers w calls [] ≡ []
-  answers_none [] = refl
-  answers_none (c ∷ calls) = refl
+  none_made : (calls : List Call) → ◌≡◌ {A = List (Call × Answer)} (zip calls []) []
+  none_made [] = refl
+  none_made (c ∷ calls) = refl
 
   split : (xs ys us vs : List ℕ) → length xs ≡ length ys → xs ++ us ≡ ys ++ vs → (xs ≡ ys) × (us ≡ vs)
   split [] [] us vs h e = (refl, e)
@@ -193,8 +190,8 @@ module _ (o : Order) (laws : Laws o) (w : ℕ) where
         SeenAlike (c ∷ calls) (d ∷ others) (after_call place left (λ next. transcript_from o (place + 1) next calls)) (after_call place right (λ next. transcript_from o (place + 1) next others))
     turn disallowed disallowed both_disallowed g h rest e =
         record {
-          same_sheets = ap₂ (λ (x : Bool) (xs : List (List ℕ)). cond x [] [] ∷ xs) same_show (sheets_none calls ∙ sym (sheets_none others));
-          same_answers = ap₂ (λ (x : Bool) (xs : List Answer). cond x (not_allowed place ∷ []) [] ++ xs) same_show (answers_none calls ∙ sym (answers_none others));
+          same_sheets = ap₂ (λ (x : Bool) (xs : List (List ℕ)). cond x [] [] ∷ xs) same_show (ap (map _) (none_made calls ∙ sym (none_made others)));
+          same_answers = ap₂ (λ (x : Bool) (xs : List Answer). cond x (not_allowed place ∷ []) [] ++ xs) same_show (ap (flat_map _) (none_made calls ∙ sym (none_made others)));
         }
     turn (allowed a next) disallowed p g h rest e = elim p [ ]
     turn disallowed (allowed b other) p g h rest e = elim p [ ]
