@@ -1,6 +1,7 @@
 -- Two alike lists on controllers of their own show an observer the same. Assumes the laws of the order.
-use Rattle.std.proofs.Common.{◌≡◌, ℕ, zero, suc, ◌+◌, ◌*◌, ◌<◌, ◌≤◌, Bool, true, false, cond, eqb, ltb, List, [], ◌∷◌, ◌++◌, map, length, get_or, drop, set, replicate, ℤ, pos, sym, refl, ap, ◌∙◌, subst, ap₂, arith}
+use Rattle.std.proofs.Common.{◌≡◌, ℕ, zero, suc, ◌+◌, ◌*◌, ◌<◌, ◌≤◌, Bool, true, false, cond, eqb, ltb, List, [], ◌∷◌, ◌++◌, map, length, get_or, take, drop, set, replicate, ℤ, pos, sym, refl, ap, ◌∙◌, subst, ap₂, arith}
 use lib.ListN.{length-replicate}
+use Rattle.std.proofs.lemmas.List.{take_at, drop_at}
 use Rattle.std.proofs.lemmas.Bool.{true≢false, false≢true, eqb-true, ltb-true, eq-eqb}
 use Rattle.std.specs.List.{zip, flat_map}
 use Rattle.lattice.specs.Order.{Order, Laws}
@@ -168,20 +169,10 @@ module _ (o : Order) (laws : Laws o) (w : ℕ) where
   none_made (c ∷ calls) = refl
 
   split : (xs ys us vs : List ℕ) → length xs ≡ length ys → xs ++ us ≡ ys ++ vs → (xs ≡ ys) × (us ≡ vs)
-  split [] [] us vs h e = (refl, e)
-  split [] (y ∷ ys) us vs h e = absurd (omega arith)
-  split (x ∷ xs) [] us vs h e = absurd (omega arith)
-  split (x ∷ xs) (y ∷ ys) us vs h e =
-      let rest = split xs ys us vs (omega arith) (ap (λ (zs : List ℕ). tail zs) e) in
-      ((λ i. head (e i) ∷ rest.0 i), rest.1)
-    where
-      tail : List ℕ → List ℕ
-      tail [] = []
-      tail (z ∷ zs) = zs
-
-      head : List ℕ → ℕ
-      head [] = 0
-      head (z ∷ zs) = z
+  split xs ys us vs h e = (
+    sym (take_at xs us (length xs) refl) ∙ ap (take (length xs)) e ∙ take_at ys vs (length xs) (sym h),
+    sym (drop_at xs us (length xs) refl) ∙ ap (drop (length xs)) e ∙ drop_at ys vs (length xs) (sym h),
+  )
 
   module _ (place : ℕ) (s : State) (c d : Call) (calls others : List Call) (same_show : shows_to w c ≡ shows_to w d) where
     turn : (left right : Outcome) → Paired c left right → GoodOutcome o left → GoodOutcome o right →
