@@ -14,7 +14,7 @@ use std::alloc::{AllocError, Global};
 
 // A controller in whichever state it is.
 #[derive(Drop)]
-pub enum Phase<L> {
+pub(crate) enum Phase<L> {
     Setup(Setup<L>),
     Ready(Ready<L>),
     Running(Running<L>),
