@@ -1,5 +1,5 @@
 -- How the count and the lines of the open variables grow with each variable. Assumes nothing.
-use Rattle.std.proofs.Common.{◌≡◌, ℕ, ℤ, zero, suc, ◌+◌, ◌-◌, ◌*◌, ◌<◌, ◌≤◌, true, false, cond, List, [], ◌++◌, length, get_or, take, drop, pos, sym, refl, ap, ap₂, ◌∙◌, append_assoc, append-nil, add-zero, add-one, arith, length-append}
+use Rattle.std.proofs.Common.{◌≡◌, ℕ, ℤ, zero, suc, ◌+◌, ◌-◌, ◌*◌, ◌<◌, ◌≤◌, true, false, cond, List, [], ◌++◌, length, get_or, take, drop, pos, sym, refl, ap, ap₂, ◌∙◌, append_assoc, append-nil, add-one, arith, length-append}
 use native.Mathlib.Decide.{le_ind}
 use borrow.Rule.Slice.PartMut.{put_mid}
 use Rattle.std.proofs.lemmas.List.{take_all, take_at, drop_at, drop-drop, get_or_read}
@@ -37,20 +37,6 @@ module _ (o : Order) (s : ReadyState) (observer : ℕ) where
   unfolding lines_below
   lines_more n = ap (lines_below o s observer) (add-one n)
 
-  -- what an open and a closed variable add
-  open_adds : (n : ℕ) → is_open o s observer n ≡ true → open_below o s observer (n + 1) ≡ open_below o s observer n + 1
-  open_adds n h = open_more n ∙ ap (λ b. open_below o s observer n + cond b 1 0) h
-
-  closed_adds_none : (n : ℕ) → is_open o s observer n ≡ false → open_below o s observer (n + 1) ≡ open_below o s observer n
-  closed_adds_none n h = open_more n ∙ ap (λ b. open_below o s observer n + cond b 1 0) h ∙ add-zero (open_below o s observer n)
-
-  open_adds_line : (n : ℕ) → is_open o s observer n ≡ true → lines_below o s observer (n + 1) ≡ lines_below o s observer n ++ line n (get_or s.values n (pos 0))
-  open_adds_line n h = lines_more n ∙ ap (λ b. lines_below o s observer n ++ cond b (line n (get_or s.values n (pos 0))) []) h
-
-  closed_adds_no_line : (n : ℕ) → is_open o s observer n ≡ false → lines_below o s observer (n + 1) ≡ lines_below o s observer n
-  closed_adds_no_line n h =
-      lines_more n ∙ ap (λ b. lines_below o s observer n ++ cond b (line n (get_or s.values n (pos 0))) []) h ∙ append-nil (lines_below o s observer n)
-
   -- each open variable takes five bytes
   pub length_lines : (n : ℕ) → length (lines_below o s observer n) ≡ 5 * open_below o s observer n
   unfolding open_below lines_below
@@ -73,7 +59,7 @@ module _ (o : Order) (s : ReadyState) (observer : ℕ) where
 
   -- an open variable's line has room below the whole sheet's end
   pub room : (n : ℕ) → n < 32 → is_open o s observer n ≡ true → 5 * open_below o s observer n + 5 ≤ 5 * open_below o s observer 32
-  room n h k = omega (arith, open_adds n k, open_grows (n + 1) 32 (omega arith))
+  room n h k = let more = open_more n in let grows = open_grows (n + 1) 32 (omega arith) in grind (arith, k)
 
 -- The values beside the levels, with their numbers: at the place n are those of the variable n.
 pub pair_at : (values : List ℤ) (levels : List ℕ) (n : ℕ) (x : ℕ × (ℤ × ℕ)) → (n < length (enumerate_from 0 (zip values levels))) × (x ≡ get_or (enumerate_from 0 (zip values levels)) n x) → x ≡ (n, (get_or values n (pos 0), get_or levels n 0))
@@ -96,13 +82,13 @@ written_behind front old ys at long =
 -- One turn of the loop that writes the lines: what is written so far, at the next variable.
 module _ (o : Order) (s : ReadyState) (observer n at : ℕ) (old buffer : List ℕ) (so_far : at ≡ 5 * open_below o s observer n) (held : buffer ≡ lines_below o s observer n ++ drop at old) where
   pub closed_turn : is_open o s observer n ≡ false → (at ≡ 5 * open_below o s observer (n + 1)) × (buffer ≡ lines_below o s observer (n + 1) ++ drop at old)
-  closed_turn h = (so_far ∙ ap (λ k. 5 * k) (sym (closed_adds_none o s observer n h)), held ∙ ap (λ front. front ++ drop at old) (sym (closed_adds_no_line o s observer n h)))
+  closed_turn h = let more = open_more o s observer n in let lines = lines_more o s observer n in grind (arith, append-nil)
 
   pub open_turn : (ys : List ℕ) → ys ≡ line n (get_or s.values n (pos 0)) → is_open o s observer n ≡ true → (at + 5 ≡ 5 * open_below o s observer (n + 1)) × (put_mid at (at + 5 - at) buffer ys ≡ lines_below o s observer (n + 1) ++ drop (at + 5) old)
   open_turn ys e h = (
-    omega (arith, open_adds o s observer n h),
+    grind (arith, open_more o s observer n),
     ap (λ b. put_mid at (at + 5 - at) b ys) held
         ∙ written_behind (lines_below o s observer n) old ys at (length_lines o s observer n ∙ sym so_far)
         ∙ ap (λ y. (lines_below o s observer n ++ y) ++ drop (at + 5) old) e
-        ∙ ap (λ front. front ++ drop (at + 5) old) (sym (open_adds_line o s observer n h)),
+        ∙ ap (λ front. front ++ drop (at + 5) old) (ap (λ b. lines_below o s observer n ++ cond b (line n (get_or s.values n (pos 0))) []) (sym h) ∙ sym (lines_more o s observer n)),
   )
