@@ -85,10 +85,8 @@ module _ (o : Order) (s : ReadyState) (observer n at : ℕ) (old buffer : List �
   closed_turn h = let more = open_more o s observer n in let lines = lines_more o s observer n in grind (arith, append-nil)
 
   pub open_turn : (ys : List ℕ) → ys ≡ line n (get_or s.values n (pos 0)) → is_open o s observer n ≡ true → (at + 5 ≡ 5 * open_below o s observer (n + 1)) × (put_mid at (at + 5 - at) buffer ys ≡ lines_below o s observer (n + 1) ++ drop (at + 5) old)
-  open_turn ys e h = (
-    grind (arith, open_more o s observer n),
-    ap (λ b. put_mid at (at + 5 - at) b ys) held
-        ∙ written_behind (lines_below o s observer n) old ys at (length_lines o s observer n ∙ sym so_far)
-        ∙ ap (λ y. (lines_below o s observer n ++ y) ++ drop (at + 5) old) e
-        ∙ ap (λ front. front ++ drop (at + 5) old) (ap (λ b. lines_below o s observer n ++ cond b (line n (get_or s.values n (pos 0))) []) (sym h) ∙ sym (lines_more o s observer n)),
-  )
+  open_turn ys e h =
+      let more = open_more o s observer n in
+      let lines = lines_more o s observer n in
+      let written = written_behind (lines_below o s observer n) old ys at (length_lines o s observer n ∙ sym so_far) in
+      grind arith
