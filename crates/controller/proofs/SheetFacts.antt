@@ -42,11 +42,9 @@ module _ (o : Order) (s : ReadyState) (observer : ℕ) where
   unfolding open_below lines_below
   length_lines zero = refl
   length_lines (suc n) =
-      length-append (lines_below o s observer n) (cond (is_open o s observer n) (line n (get_or s.values n (pos 0))) [])
-      ∙ elim (is_open o s observer n) as (λ b. length (lines_below o s observer n) + length (cond b (line n (get_or s.values n (pos 0))) []) ≡ 5 * (open_below o s observer n + cond b 1 0)) [
-        | true ↦ omega (arith, length_lines n)
-        | false ↦ omega (arith, length_lines n)
-      ]
+      let before = length_lines n in
+      let both = length-append (lines_below o s observer n) (cond (is_open o s observer n) (line n (get_or s.values n (pos 0))) []) in
+      grind arith
 
   open_grows : (m n : ℕ) → m ≤ n → open_below o s observer m ≤ open_below o s observer n
   unfolding open_below
@@ -55,7 +53,7 @@ module _ (o : Order) (s : ReadyState) (observer : ℕ) where
   pub open_at_most : (n : ℕ) → open_below o s observer n ≤ n
   unfolding open_below
   open_at_most zero = omega arith
-  open_at_most (suc n) = elim (is_open o s observer n) as (λ b. open_below o s observer n + cond b 1 0 ≤ suc n) [ true ↦ omega (arith, open_at_most n) | false ↦ omega (arith, open_at_most n) ]
+  open_at_most (suc n) = let few = open_at_most n in grind arith
 
   -- an open variable's line has room below the whole sheet's end
   pub room : (n : ℕ) → n < 32 → is_open o s observer n ≡ true → 5 * open_below o s observer n + 5 ≤ 5 * open_below o s observer 32
