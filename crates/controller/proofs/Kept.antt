@@ -4,7 +4,7 @@ use Rattle.std.proofs.Common.{◌≡◌, ℕ, ◌+◌, ◌<◌, Bool, true, fals
 use lib.ListN.{length-replicate}
 use Rattle.std.proofs.lemmas.List.{length-set, get_or-set_same, get_or-set_other, get_or-replicate}
 use Rattle.std.proofs.lemmas.List.Sums.{sum_by-cons}
-use Rattle.std.proofs.lemmas.Bool.{true≢false, eqb-true, eqb-false, ltb-true, eq-eqb}
+use Rattle.std.proofs.lemmas.Bool.{cases_lt, true≢false, eqb-true, eqb-false, ltb-true, eq-eqb}
 use Rattle.lattice.specs.Order.{Order, Laws}
 use Rattle.push.specs.declared.instruction.Instruction.{Instruction}
 use Rattle.push.specs.declared.status.Status.{Status}
@@ -17,7 +17,7 @@ use Rattle.push.proofs.RunFacts.{run_advances, new_runs_are_true}
 use Rattle.job.specs.Layout.{opening}
 use Rattle.checker.specs.Verdict.{verdict, decoded_code}
 use Rattle.checker.proofs.Judgement.{verdict_judged}
-use Rattle.checker.proofs.Typing.{below_or_not, rule_within}
+use Rattle.checker.proofs.Typing.{rule_within}
 use Rattle.checker.specs.Flow.{NeverFaults, KeepsClosed, LevelsOfVariables}
 use Rattle.checker.proofs.Safety.{accepted_jobs_never_fault, accepted_jobs_keep_closed}
 use Rattle.controller.specs.State.{SetupState, ReadyState, new_state}
@@ -131,7 +131,7 @@ regraded o levels v l g small level = record { sized = length-set levels v l ∙
     at_variable u hu false e = subst (λ x. x < o.span) (sym (get_or-set_other levels v u l 0 (eqb-false u v e))) (before u hu)
 
 pub new_is_good : (o : Order) → Laws o → Good o (in_setup (new_state o))
-new_is_good o laws = good_setup (record { sized = length-replicate 32 o.highest; are_levels = ⊎_elim (λ some. inr (λ v hv. subst (λ x. x < o.span) (sym (get_or-replicate 32 v o.highest 0 hv)) (laws.only_levels 0 o.highest (laws.highest_greatest 0 some)).1)) (λ empty. inl (omega arith)) (below_or_not 0 o.span) })
+new_is_good o laws = good_setup (record { sized = length-replicate 32 o.highest; are_levels = ⊎_elim (λ some. inr (λ v hv. subst (λ x. x < o.span) (sym (get_or-replicate 32 v o.highest 0 hv)) (laws.only_levels 0 o.highest (laws.highest_greatest 0 some)).1)) (λ empty. inl (omega arith)) (cases_lt 0 o.span) })
 
 -- What a call leaves of a good state is good, and no advance answers 2.
 pub data GoodOutcome (o : Order) : Outcome → Type 0 where
