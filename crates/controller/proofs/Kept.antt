@@ -3,7 +3,8 @@
 use Rattle.std.proofs.Common.{◌≡◌, ℕ, ◌+◌, ◌<◌, Bool, true, false, cond, eqb, ltb, ◌⊎◌, List, [], ◌∷◌, length, get_or, set, ℤ, pos, sym, refl, ap, ◌∙◌, subst, inl, inr, ⊎_elim, arith}
 use lib.ListN.{length-replicate}
 use Rattle.std.proofs.lemmas.List.{length-set, get_or-set_same, get_or-set_other, get_or-replicate}
-use Rattle.std.proofs.lemmas.Bool.{true≢false, eqb-true, eqb-false, ltb-true, eq-eqb}
+use Rattle.std.proofs.lemmas.List.Sums.{sum_by-cons}
+use Rattle.std.proofs.lemmas.Bool.{cases_lt, true≢false, eqb-true, eqb-false, ltb-true, eq-eqb}
 use Rattle.lattice.specs.Order.{Order, Laws}
 use Rattle.push.specs.declared.instruction.Instruction.{Instruction}
 use Rattle.push.specs.declared.status.Status.{Status}
@@ -13,17 +14,10 @@ use Rattle.push.specs.Machine.{Machine, at, ◌⊢◌⟶◌}
 use Rattle.push.specs.Run as runs
 use Rattle.push.specs.Run.{RunState, Steps, run, begun, is_halted, label_of, values_of, TrueStatus, status_number}
 use Rattle.push.proofs.RunFacts.{run_advances, new_runs_are_true}
-use Rattle.job.specs.declared.fault.ReadFault.{ReadFault}
-use Rattle.job.specs.declared.fault.ReadFault.TheVariants as read_fault
-use Rattle.job.specs.Faults.{read_number}
-use Rattle.job.specs.Records.{Claimed}
 use Rattle.job.specs.Layout.{opening}
 use Rattle.checker.specs.Verdict.{verdict, decoded_code}
-use Rattle.checker.specs.Rules.{ProgramWithClaims}
-use Rattle.checker.specs.WellClaimed as broken
-use Rattle.checker.specs.WellClaimed.{FirstBroken, LabelBreaks, BranchBreaks}
-use Rattle.checker.proofs.Judgement.{judged}
-use Rattle.checker.proofs.Typing.{below_or_not, rule_within}
+use Rattle.checker.proofs.Judgement.{verdict_judged}
+use Rattle.checker.proofs.Typing.{rule_within}
 use Rattle.checker.specs.Flow.{NeverFaults, KeepsClosed, LevelsOfVariables}
 use Rattle.checker.proofs.Safety.{accepted_jobs_never_fault, accepted_jobs_keep_closed}
 use Rattle.controller.specs.State.{SetupState, ReadyState, new_state}
@@ -34,11 +28,11 @@ use Rattle.controller.specs.Counts.{fault_in, stack_faults}
 -- The 32 levels are levels, or there are none.
 pub record Graded (o : Order) (levels : List ℕ) : Type 0 where
   pub sized : length levels ≡ 32
-  pub are_levels : (o.span ≡ 0) ⊎ LevelsOfVariables o levels
+  are_levels : (o.span ≡ 0) ⊎ LevelsOfVariables o levels
 
 -- A program that can be run over some levels.
 pub record Safe (o : Order) (levels : List ℕ) (program : List Instruction) : Type 0 where
-  pub never_faults : NeverFaults program
+  never_faults : NeverFaults program
   pub keeps_closed : KeepsClosed o levels program
 
 -- A run that came by the machine's steps from some values.
@@ -65,7 +59,7 @@ rule_keeps_length (rule.turn a) = refl
 rule_keeps_length (rule.goto a) = refl
 rule_keeps_length (rule.branch a) = refl
 
-pub steps_keep_length : {code : List Instruction} {k : ℕ} {m n : Machine} → Steps code k m n → length (values_of n) ≡ length (values_of m)
+steps_keep_length : {code : List Instruction} {k : ℕ} {m n : Machine} → Steps code k m n → length (values_of n) ≡ length (values_of m)
 steps_keep_length runs.none = refl
 steps_keep_length (runs.more r rest) = steps_keep_length rest ∙ rule_keeps_length r
 
@@ -74,52 +68,25 @@ steps_then {k = k} runs.none after = (k, after)
 steps_then (runs.more r rest) after = let more = steps_then rest after in (more.0 + 1, runs.more r more.1)
 
 -- A run under way has not faulted, and an advance keeps it so.
-pub no_fault : (code : List Instruction) (values : List ℤ) (r : RunState) → NeverFaults code → UnderWay code values r → r.status ≡ Faulted → ⊥
+no_fault : (code : List Instruction) (values : List ℤ) (r : RunState) → NeverFaults code → UnderWay code values r → r.status ≡ Faulted → ⊥
 no_fault code values r never way faulted =
     ⊎_elim
     (λ e. true≢false (sym (eq-eqb (label_of r.machine) (length code) e) ∙ sym way.honest.halted_at_the_exit ∙ ap is_halted faulted))
     (λ next. way.honest.faulted_without_a_rule faulted next.0 next.1)
     (never values way.count r.machine way.reached)
 
-pub goes_on : (code : List Instruction) (values : List ℤ) (r : RunState) (budget : ℕ) → UnderWay code values r → UnderWay code values (run code budget r).1
+goes_on : (code : List Instruction) (values : List ℤ) (r : RunState) (budget : ℕ) → UnderWay code values r → UnderWay code values (run code budget r).1
 goes_on code values r budget way =
     let advanced = run_advances code budget r in
     let all = steps_then way.reached advanced.machine_steps in
     record { count = all.0; reached = all.1; honest = advanced.status_stays_true way.honest }
 
-pub starts_so : (code : List Instruction) (values : List ℤ) → UnderWay code values (begun code values)
+starts_so : (code : List Instruction) (values : List ℤ) → UnderWay code values (begun code values)
 starts_so code values = record { count = 0; reached = runs.none; honest = new_runs_are_true code values }
 
--- Acceptance has the number 0 with the label 0, and makes a program safe.
-broken_number : (o : Order) (levels bytes : List ℕ) {number label : ℕ} → FirstBroken o levels bytes number label → number ≡ 0 → ⊥
-broken_number o levels bytes (broken.unopened {fault = f} e) z = some_fault f z
-  where
-    some_fault : (fault : ReadFault) → read_number fault ≡ 0 → ⊥
-    some_fault read_fault.TooShort z = absurd (omega arith)
-    some_fault read_fault.TooManyInstructions z = absurd (omega arith)
-    some_fault read_fault.TooManyPlaces z = absurd (omega arith)
-    some_fault read_fault.WrongLength z = absurd (omega arith)
-broken_number o levels bytes (broken.instruction a b c d) z = absurd (omega arith)
-broken_number o levels bytes (broken.claim a b c d e) z = absurd (omega arith)
-broken_number o levels bytes (broken.entry a b) z = absurd (omega arith)
-broken_number o levels bytes (broken.label_rule a b here) z = by here.broken z
-  where
-    by : {job : ProgramWithClaims} {label number : ℕ} {c : Claimed} {i : Instruction} → LabelBreaks o levels job label c i number → number ≡ 0 → ⊥
-    by (broken.stack h) z = absurd (omega arith)
-    by (broken.store h k) z = absurd (omega arith)
-    by (broken.successor h k l) z = absurd (omega arith)
-broken_number o levels bytes (broken.branch_rule a b c here) z = by here.broken z
-  where
-    by : {job : ProgramWithClaims} {label number : ℕ} {c : Claimed} {i : Instruction} → BranchBreaks o job label c i number → number ≡ 0 → ⊥
-    by (broken.exit_inside h) z = absurd (omega arith)
-    by (broken.too_low h k) z = absurd (omega arith)
-
+-- A verdict of the number 0 has the label 0.
 accepted : (o : Order) (levels bytes : List ℕ) → (verdict o levels bytes).0 ≡ 0 → verdict o levels bytes ≡ (0, 0)
-accepted o levels bytes z = by (eqb (verdict o levels bytes).1 0) refl
-  where
-    by : (t : Bool) → eqb (verdict o levels bytes).1 0 ≡ t → verdict o levels bytes ≡ (0, 0)
-    by true e = λ i. (z i, eqb-true (verdict o levels bytes).1 0 e i)
-    by false e = absurd (broken_number o levels bytes ((judged o levels bytes).refused_names_the_first (λ h. eqb-false (verdict o levels bytes).1 0 e (ap (λ p. p.1) h))) z)
+accepted o levels bytes z = ⊎_elim (λ p. p.0) (λ p. absurd (p.0 z)) (verdict_judged o levels bytes)
 
 -- Where there are no levels nothing is open, so only the number of values counts.
 none_open : (o : Order) → Laws o → (levels : List ℕ) (program : List Instruction) → o.span ≡ 0 → KeepsClosed o levels program
@@ -130,7 +97,7 @@ none_open o laws levels program empty w vs ws alike j k s t vs' ws' left right =
       agree = λ v hv low. let some = (laws.only_levels (get_or levels v 0) w low).0 in absurd (omega arith);
     }
 
-pub accepted_is_safe : (o : Order) → Laws o → (levels bytes : List ℕ) → Graded o levels → (verdict o levels bytes).0 ≡ 0 → Safe o levels (decoded_code bytes (opening bytes))
+accepted_is_safe : (o : Order) → Laws o → (levels bytes : List ℕ) → Graded o levels → (verdict o levels bytes).0 ≡ 0 → Safe o levels (decoded_code bytes (opening bytes))
 accepted_is_safe o laws levels bytes g z =
     record {
       never_faults = accepted_jobs_never_fault o levels bytes laws (accepted o levels bytes z);
@@ -141,7 +108,7 @@ accepted_is_safe o laws levels bytes g z =
 nothing_runs : {m n : Machine} → [] ⊢ m ⟶ n → ⊥
 nothing_runs {m = at l s vs} {n = n} r = let below = rule_within [] l s vs n r in absurd (omega arith)
 
-pub nothing_is_safe : (o : Order) (levels : List ℕ) → Safe o levels []
+nothing_is_safe : (o : Order) (levels : List ℕ) → Safe o levels []
 nothing_is_safe o levels = record { never_faults = stays; keeps_closed = closed }
   where
     stays : NeverFaults []
@@ -164,7 +131,7 @@ regraded o levels v l g small level = record { sized = length-set levels v l ∙
     at_variable u hu false e = subst (λ x. x < o.span) (sym (get_or-set_other levels v u l 0 (eqb-false u v e))) (before u hu)
 
 pub new_is_good : (o : Order) → Laws o → Good o (in_setup (new_state o))
-new_is_good o laws = good_setup (record { sized = length-replicate 32 o.highest; are_levels = ⊎_elim (λ some. inr (λ v hv. subst (λ x. x < o.span) (sym (get_or-replicate 32 v o.highest 0 hv)) (laws.only_levels 0 o.highest (laws.highest_greatest 0 some)).1)) (λ empty. inl (omega arith)) (below_or_not 0 o.span) })
+new_is_good o laws = good_setup (record { sized = length-replicate 32 o.highest; are_levels = ⊎_elim (λ some. inr (λ v hv. subst (λ x. x < o.span) (sym (get_or-replicate 32 v o.highest 0 hv)) (laws.only_levels 0 o.highest (laws.highest_greatest 0 some)).1)) (λ empty. inl (omega arith)) (cases_lt 0 o.span) })
 
 -- What a call leaves of a good state is good, and no advance answers 2.
 pub data GoodOutcome (o : Order) : Outcome → Type 0 where
@@ -261,7 +228,7 @@ module _ (o : Order) (laws : Laws o) where
     where
       by : (out : Outcome) → GoodOutcome o out → ((next : State) → Good o next → stack_faults (transcript_from o (place + 1) next calls) ≡ 0) → stack_faults (after_call place out (λ next. transcript_from o (place + 1) next calls)) ≡ 0
       by disallowed good_disallowed rest = refl
-      by (allowed answer next) (good_allowed none good) rest = omega (arith, none, rest next good)
+      by (allowed answer next) (good_allowed none good) rest = omega (arith, sum_by-cons fault_in answer (transcript_from o (place + 1) next calls), none, rest next good)
 
   pub no_stack_faults : (calls : List Call) → stack_faults (transcript o calls) ≡ 0
   no_stack_faults calls = no_faults_from 0 (in_setup (new_state o)) calls (new_is_good o laws)

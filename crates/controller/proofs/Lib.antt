@@ -1,4 +1,3 @@
-pub mod Outcomes
 pub mod SheetFacts
 pub mod ListFacts
 pub mod Kept

@@ -16,13 +16,13 @@ module _ (o : Order) (place : ℕ) (s : State) (calls : List Call) (done total :
     next_is : (out : Outcome) → outcome o s (get_or calls place d) ≡ out → transcript_from o place s (drop place calls) ≡ after_call place out (λ next. transcript_from o (place + 1) next (drop (place + 1) calls))
     next_is out e = ap (transcript_from o place s) (drop_more calls place d some) ∙ ap (λ x. after_call place x (λ next. transcript_from o (place + 1) next (drop (place + 1) calls))) e
 
-    pub one_answered : (answer : Answer) (next : State) → allowed answer next ≡ outcome o s (get_or calls place d) → (done ++ (answer ∷ [])) ++ transcript_from o (place + 1) next (drop (place + 1) calls) ≡ total
+    one_answered : (answer : Answer) (next : State) → allowed answer next ≡ outcome o s (get_or calls place d) → (done ++ (answer ∷ [])) ++ transcript_from o (place + 1) next (drop (place + 1) calls) ≡ total
     one_answered answer next e = append_assoc done (answer ∷ []) _ ∙ sym (ap (λ rest. done ++ rest) (next_is (allowed answer next) (sym e))) ∙ so_far
 
-    pub one_disallowed : disallowed ≡ outcome o s (get_or calls place d) → done ++ (not_allowed place ∷ []) ≡ total
+    one_disallowed : disallowed ≡ outcome o s (get_or calls place d) → done ++ (not_allowed place ∷ []) ≡ total
     one_disallowed e = sym (ap (λ rest. done ++ rest) (next_is disallowed (sym e))) ∙ so_far
 
-  pub all_answered : length calls ≤ place → done ≡ total
+  all_answered : length calls ≤ place → done ≡ total
   all_answered h = sym (append-nil done) ∙ ap (λ rest. done ++ rest) (ap (transcript_from o place s) (sym (drop_all place calls h))) ∙ so_far
 
 -- The same of the code's calls, answers and states.

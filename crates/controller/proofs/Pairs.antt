@@ -1,7 +1,9 @@
 -- Two alike lists on controllers of their own show an observer the same. Assumes the laws of the order.
-use Rattle.std.proofs.Common.{◌≡◌, ℕ, zero, suc, ◌+◌, ◌*◌, ◌<◌, ◌≤◌, Bool, true, false, cond, eqb, ltb, List, [], ◌∷◌, ◌++◌, length, get_or, drop, set, replicate, ℤ, pos, sym, refl, ap, ◌∙◌, subst, ap₂, arith}
+use Rattle.std.proofs.Common.{◌≡◌, ℕ, zero, suc, ◌+◌, ◌*◌, ◌<◌, ◌≤◌, Bool, true, false, cond, eqb, ltb, List, [], ◌∷◌, ◌++◌, map, length, get_or, take, drop, set, replicate, ℤ, pos, sym, refl, ap, ◌∙◌, subst, ap₂, arith}
 use lib.ListN.{length-replicate}
+use Rattle.std.proofs.lemmas.List.{take_at, drop_at}
 use Rattle.std.proofs.lemmas.Bool.{true≢false, false≢true, eqb-true, ltb-true, eq-eqb}
+use Rattle.std.specs.List.{zip, flat_map}
 use Rattle.lattice.specs.Order.{Order, Laws}
 use Rattle.push.specs.declared.instruction.Instruction.{Instruction}
 use Rattle.push.specs.Machine.{Machine, at}
@@ -162,29 +164,15 @@ module _ (o : Order) (laws : Laws o) (w : ℕ) where
     same_sheets : sheets w calls left ≡ sheets w others right
     same_answers : show_answers w calls left ≡ show_answers w others right
 
-  sheets_none : (calls : List Call) → sheets w calls [] ≡ []
-  sheets_none [] = refl
-  sheets_none (c ∷ calls) = refl
-
-  answers_none : (calls : List Call) → show_answers w calls [] ≡ []
-  answers_none [] = refl
-  answers_none (c ∷ calls) = refl
+  none_made : (calls : List Call) → ◌≡◌ {A = List (Call × Answer)} (zip calls []) []
+  none_made [] = refl
+  none_made (c ∷ calls) = refl
 
   split : (xs ys us vs : List ℕ) → length xs ≡ length ys → xs ++ us ≡ ys ++ vs → (xs ≡ ys) × (us ≡ vs)
-  split [] [] us vs h e = (refl, e)
-  split [] (y ∷ ys) us vs h e = absurd (omega arith)
-  split (x ∷ xs) [] us vs h e = absurd (omega arith)
-  split (x ∷ xs) (y ∷ ys) us vs h e =
-      let rest = split xs ys us vs (omega arith) (ap (λ (zs : List ℕ). tail zs) e) in
-      ((λ i. head (e i) ∷ rest.0 i), rest.1)
-    where
-      tail : List ℕ → List ℕ
-      tail [] = []
-      tail (z ∷ zs) = zs
-
-      head : List ℕ → ℕ
-      head [] = 0
-      head (z ∷ zs) = z
+  split xs ys us vs h e = (
+    sym (take_at xs us (length xs) refl) ∙ ap (take (length xs)) e ∙ take_at ys vs (length xs) (sym h),
+    sym (drop_at xs us (length xs) refl) ∙ ap (drop (length xs)) e ∙ drop_at ys vs (length xs) (sym h),
+  )
 
   module _ (place : ℕ) (s : State) (c d : Call) (calls others : List Call) (same_show : shows_to w c ≡ shows_to w d) where
     turn : (left right : Outcome) → Paired c left right → GoodOutcome o left → GoodOutcome o right →
@@ -193,8 +181,8 @@ module _ (o : Order) (laws : Laws o) (w : ℕ) where
         SeenAlike (c ∷ calls) (d ∷ others) (after_call place left (λ next. transcript_from o (place + 1) next calls)) (after_call place right (λ next. transcript_from o (place + 1) next others))
     turn disallowed disallowed both_disallowed g h rest e =
         record {
-          same_sheets = ap₂ (λ (x : Bool) (xs : List (List ℕ)). cond x [] [] ∷ xs) same_show (sheets_none calls ∙ sym (sheets_none others));
-          same_answers = ap₂ (λ (x : Bool) (xs : List Answer). cond x (not_allowed place ∷ []) [] ++ xs) same_show (answers_none calls ∙ sym (answers_none others));
+          same_sheets = ap₂ (λ (x : Bool) (xs : List (List ℕ)). cond x [] [] ∷ xs) same_show (ap (map _) (none_made calls ∙ sym (none_made others)));
+          same_answers = ap₂ (λ (x : Bool) (xs : List Answer). cond x (not_allowed place ∷ []) [] ++ xs) same_show (ap (flat_map _) (none_made calls ∙ sym (none_made others)));
         }
     turn (allowed a next) disallowed p g h rest e = elim p [ ]
     turn disallowed (allowed b other) p g h rest e = elim p [ ]

@@ -1,18 +1,10 @@
 -- How the count and the lines of the open variables grow with each variable. Assumes nothing.
-use Rattle.std.proofs.Common.{◌≡◌, ℕ, ℤ, zero, suc, ◌+◌, ◌-◌, ◌*◌, ◌<◌, ◌≤◌, true, false, cond, List, [], ◌++◌, length, get_or, take, drop, Option, Some, Iter, Bor, pos, sym, refl, ap, ◌∙◌, append_assoc, append-nil, add-zero, add-one, arith, length-append}
+use Rattle.std.proofs.Common.{◌≡◌, ℕ, ℤ, zero, suc, ◌+◌, ◌-◌, ◌*◌, ◌<◌, ◌≤◌, true, false, cond, List, [], ◌++◌, length, get_or, take, drop, pos, sym, refl, ap, ap₂, ◌∙◌, append_assoc, append-nil, add-one, arith, length-append}
 use native.Mathlib.Decide.{le_ind}
 use borrow.Rule.Slice.PartMut.{put_mid}
 use Rattle.std.proofs.lemmas.List.{take_all, take_at, drop_at, drop-drop, get_or_read}
 use Rattle.std.proofs.lemmas.List.FromFn.{length-enumerate_from, get_or-enumerate_from}
 use Rattle.std.proofs.lemmas.Slice.Zip.{length-zip, get_or-zip}
-use Rattle.std.proofs.lemmas.Iterator.{zips, YieldsList-from_slice, YieldsList-from_zip}
-use Rattle.std.proofs.lemmas.Iterator.Consumers.{YieldsList-from_enumerate, YieldsList-turn}
-use Rattle.std.proofs.iter.Yields.{fronts}
-use Rattle.std.specs.declared.iter.Enumerate.{Enumerate}
-use Rattle.std.specs.declared.iter.Zip.{Zip}
-use Rattle.std.specs.Iterator.{Yields}
-use Rattle.std.specs.Iterator.Adapters.{enumerate_source, enumerate_count, enumerate_steps, zip_first, zip_second}
-use Rattle.std.specs.Slice.Iter.{iter_rest}
 use Rattle.std.proofs.lemmas.List.Sums.{sum_by_more}
 use Rattle.std.specs.List.{count_by, enumerate_from, zip}
 use Rattle.lattice.specs.Order.{Order}
@@ -24,7 +16,7 @@ module _ (o : Order) (s : ReadyState) (observer : ℕ) where
   unfolding open_below
   open_none = refl
 
-  pub open_more : (n : ℕ) → open_below o s observer (n + 1) ≡ open_below o s observer n + cond (is_open o s observer n) 1 0
+  open_more : (n : ℕ) → open_below o s observer (n + 1) ≡ open_below o s observer n + cond (is_open o s observer n) 1 0
   unfolding open_below
   open_more n = ap (open_below o s observer) (add-one n)
 
@@ -41,34 +33,18 @@ module _ (o : Order) (s : ReadyState) (observer : ℕ) where
   unfolding lines_below
   lines_none = refl
 
-  pub lines_more : (n : ℕ) → lines_below o s observer (n + 1) ≡ lines_below o s observer n ++ cond (is_open o s observer n) (line n (get_or s.values n (pos 0))) []
+  lines_more : (n : ℕ) → lines_below o s observer (n + 1) ≡ lines_below o s observer n ++ cond (is_open o s observer n) (line n (get_or s.values n (pos 0))) []
   unfolding lines_below
   lines_more n = ap (lines_below o s observer) (add-one n)
-
-  -- what an open and a closed variable add
-  open_adds : (n : ℕ) → is_open o s observer n ≡ true → open_below o s observer (n + 1) ≡ open_below o s observer n + 1
-  open_adds n h = open_more n ∙ ap (λ b. open_below o s observer n + cond b 1 0) h
-
-  closed_adds_none : (n : ℕ) → is_open o s observer n ≡ false → open_below o s observer (n + 1) ≡ open_below o s observer n
-  closed_adds_none n h = open_more n ∙ ap (λ b. open_below o s observer n + cond b 1 0) h ∙ add-zero (open_below o s observer n)
-
-  open_adds_line : (n : ℕ) → is_open o s observer n ≡ true → lines_below o s observer (n + 1) ≡ lines_below o s observer n ++ line n (get_or s.values n (pos 0))
-  open_adds_line n h = lines_more n ∙ ap (λ b. lines_below o s observer n ++ cond b (line n (get_or s.values n (pos 0))) []) h
-
-  closed_adds_no_line : (n : ℕ) → is_open o s observer n ≡ false → lines_below o s observer (n + 1) ≡ lines_below o s observer n
-  closed_adds_no_line n h =
-      lines_more n ∙ ap (λ b. lines_below o s observer n ++ cond b (line n (get_or s.values n (pos 0))) []) h ∙ append-nil (lines_below o s observer n)
 
   -- each open variable takes five bytes
   pub length_lines : (n : ℕ) → length (lines_below o s observer n) ≡ 5 * open_below o s observer n
   unfolding open_below lines_below
   length_lines zero = refl
   length_lines (suc n) =
-      length-append (lines_below o s observer n) (cond (is_open o s observer n) (line n (get_or s.values n (pos 0))) [])
-      ∙ elim (is_open o s observer n) as (λ b. length (lines_below o s observer n) + length (cond b (line n (get_or s.values n (pos 0))) []) ≡ 5 * (open_below o s observer n + cond b 1 0)) [
-        | true ↦ omega (arith, length_lines n)
-        | false ↦ omega (arith, length_lines n)
-      ]
+      let before = length_lines n in
+      let both = length-append (lines_below o s observer n) (cond (is_open o s observer n) (line n (get_or s.values n (pos 0))) []) in
+      grind arith
 
   open_grows : (m n : ℕ) → m ≤ n → open_below o s observer m ≤ open_below o s observer n
   unfolding open_below
@@ -77,27 +53,21 @@ module _ (o : Order) (s : ReadyState) (observer : ℕ) where
   pub open_at_most : (n : ℕ) → open_below o s observer n ≤ n
   unfolding open_below
   open_at_most zero = omega arith
-  open_at_most (suc n) = elim (is_open o s observer n) as (λ b. open_below o s observer n + cond b 1 0 ≤ suc n) [ true ↦ omega (arith, open_at_most n) | false ↦ omega (arith, open_at_most n) ]
+  open_at_most (suc n) = let few = open_at_most n in grind arith
 
   -- an open variable's line has room below the whole sheet's end
   pub room : (n : ℕ) → n < 32 → is_open o s observer n ≡ true → 5 * open_below o s observer n + 5 ≤ 5 * open_below o s observer 32
-  room n h k = omega (arith, open_adds n k, open_grows (n + 1) 32 (omega arith))
+  room n h k = let more = open_more n in let grows = open_grows (n + 1) 32 (omega arith) in grind (arith, k)
 
--- A walk over the values beside the levels, with their numbers: its n-th turn is at the variable n.
-pair_at : (values : List ℤ) (levels : List ℕ) (n variable : ℕ) (value : ℤ) (level : ℕ) → (n < length (enumerate_from 0 (zip values levels))) × ((variable, (value, level)) ≡ get_or (enumerate_from 0 (zip values levels)) n (variable, (value, level))) → (variable ≡ n) × (value ≡ get_or values n (pos 0)) × (level ≡ get_or levels n 0)
-pair_at values levels n variable value level turn =
-    let pairs = zip values levels in
-    let within : n < length pairs = omega (arith, turn.0, length-enumerate_from 0 pairs) in
-    let in_values : n < length values = omega (arith, within, length-zip values levels) in
-    let in_levels : n < length levels = omega (arith, within, length-zip values levels) in
-    let found = turn.1 ∙ get_or-enumerate_from 0 pairs n (variable, (value, level)) within ∙ ap (λ pair. (0 + n, pair)) (get_or-zip values levels n (value, level) in_values in_levels) in
-    (omega (arith, ap (λ p. p.0) found), get_or_read values n value in_values (ap (λ p. p.1.0) found) (pos 0), get_or_read levels n level in_levels (ap (λ p. p.1.1) found) 0)
-
-module _ (values : List ℤ) (levels : List ℕ) (s t u : Enumerate (Zip (Iter ℤ) (Iter ℕ))) (over_values : iter_rest (zip_first (enumerate_source s)) ≡ values) (over_levels : iter_rest (zip_second (enumerate_source s)) ≡ levels) (from_none : enumerate_count s ≡ 0) (xs : List (ℕ × (Bor ℤ × Bor ℕ))) (given : Yields (enumerate_steps (zips fronts fronts)) s xs t) (r : Option (ℕ × (Bor ℤ × Bor ℕ))) (next : enumerate_steps (zips fronts fronts) t r u) where
-  pub walk_at : (variable : ℕ) (value : Bor ℤ) (level : Bor ℕ) → r ≡ Some (variable, (value, level)) → (variable ≡ length xs) × (value.now ≡ get_or values (length xs) (pos 0)) × (level.now ≡ get_or levels (length xs) 0)
-  walk_at variable value level is =
-      let road = YieldsList-from_enumerate (YieldsList-from_zip (YieldsList-from_slice values over_values) (YieldsList-from_slice levels over_levels)) from_none in
-      pair_at values levels (length xs) variable value.now level.now (YieldsList-turn road xs t given r u (variable, (value, level)) is next)
+-- The values beside the levels, with their numbers: at the place n are those of the variable n.
+pub pair_at : (values : List ℤ) (levels : List ℕ) (n : ℕ) (x : ℕ × (ℤ × ℕ)) → (n < length (enumerate_from 0 (zip values levels))) × (x ≡ get_or (enumerate_from 0 (zip values levels)) n x) → x ≡ (n, (get_or values n (pos 0), get_or levels n 0))
+pair_at values levels n x turn =
+    let within : n < length (zip values levels) = omega (arith, turn.0, length-enumerate_from 0 (zip values levels)) in
+    let both = length-zip values levels in
+    let from_none : 0 + n ≡ n = omega arith in
+    get_or_read _ n x turn.0 turn.1 (0, (pos 0, 0))
+    ∙ get_or-enumerate_from 0 (zip values levels) n _ within
+    ∙ ap₂ (λ i pair. (i, pair)) from_none (get_or-zip values levels n _ (omega (arith, both)) (omega (arith, both)))
 
 -- A line written behind what is written so far.
 written_behind : (front old ys : List ℕ) (at : ℕ) → length front ≡ at → put_mid at (at + 5 - at) (front ++ drop at old) ys ≡ (front ++ ys) ++ drop (at + 5) old
@@ -110,13 +80,11 @@ written_behind front old ys at long =
 -- One turn of the loop that writes the lines: what is written so far, at the next variable.
 module _ (o : Order) (s : ReadyState) (observer n at : ℕ) (old buffer : List ℕ) (so_far : at ≡ 5 * open_below o s observer n) (held : buffer ≡ lines_below o s observer n ++ drop at old) where
   pub closed_turn : is_open o s observer n ≡ false → (at ≡ 5 * open_below o s observer (n + 1)) × (buffer ≡ lines_below o s observer (n + 1) ++ drop at old)
-  closed_turn h = (so_far ∙ ap (λ k. 5 * k) (sym (closed_adds_none o s observer n h)), held ∙ ap (λ front. front ++ drop at old) (sym (closed_adds_no_line o s observer n h)))
+  closed_turn h = let more = open_more o s observer n in let lines = lines_more o s observer n in grind (arith, append-nil)
 
   pub open_turn : (ys : List ℕ) → ys ≡ line n (get_or s.values n (pos 0)) → is_open o s observer n ≡ true → (at + 5 ≡ 5 * open_below o s observer (n + 1)) × (put_mid at (at + 5 - at) buffer ys ≡ lines_below o s observer (n + 1) ++ drop (at + 5) old)
-  open_turn ys e h = (
-    omega (arith, open_adds o s observer n h),
-    ap (λ b. put_mid at (at + 5 - at) b ys) held
-        ∙ written_behind (lines_below o s observer n) old ys at (length_lines o s observer n ∙ sym so_far)
-        ∙ ap (λ y. (lines_below o s observer n ++ y) ++ drop (at + 5) old) e
-        ∙ ap (λ front. front ++ drop (at + 5) old) (sym (open_adds_line o s observer n h)),
-  )
+  open_turn ys e h =
+      let more = open_more o s observer n in
+      let lines = lines_more o s observer n in
+      let written = written_behind (lines_below o s observer n) old ys at (length_lines o s observer n ∙ sym so_far) in
+      grind arith

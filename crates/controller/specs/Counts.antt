@@ -1,5 +1,6 @@
 -- The two counts over lists of calls, and what it means that two lists are alike for an observer. Assumes nothing.
-use Rattle.std.specs.Prelude.{◌≡◌, ℕ, ◌+◌, ◌<◌, Bool, false, cond, List, [], ◌∷◌, ◌++◌, length, ℤ, ◌==◌, slice_index}
+use Rattle.std.specs.Prelude.{◌≡◌, ℕ, ◌+◌, ◌<◌, Bool, false, cond, List, [], ◌∷◌, length, map, ℤ, ◌==◌, slice_index}
+use Rattle.std.specs.List.{sum_by, flat_map, zip}
 use Rattle.lattice.specs.Order.{Order}
 use Rattle.controller.specs.State.{new_state}
 use Rattle.controller.specs.Lists.{Call, grade, seal, mount, set, read, show, start, advance, end, unseal, Answer, graded, sealed, mounted, was_set, was_read, shown, started, advanced, ended, unsealed, not_allowed, State, in_setup, is_ready, is_running, Outcome, allowed, disallowed, outcome, transcript}
@@ -19,8 +20,7 @@ fault_in unsealed = 0
 fault_in (not_allowed _) = 0
 
 abbrev pub stack_faults : List Answer → ℕ
-stack_faults [] = 0
-stack_faults (answer ∷ answers) = fault_in answer + stack_faults answers
+stack_faults answers = sum_by fault_in answers
 
 -- Whether a call is a show for an observer.
 abbrev pub shows_to : ℕ → Call → Bool
@@ -51,15 +51,11 @@ sheet_in (not_allowed _) = []
 
 -- The sheets of the shows for an observer, each at its place in the list; all other places hold no bytes.
 abbrev pub sheets : ℕ → List Call → List Answer → List (List ℕ)
-sheets observer [] answers = []
-sheets observer (call ∷ calls) [] = []
-sheets observer (call ∷ calls) (answer ∷ answers) = cond (shows_to observer call) (sheet_in answer) [] ∷ sheets observer calls answers
+sheets observer calls answers = map (λ made. cond (shows_to observer made.0) (sheet_in made.1) []) (zip calls answers)
 
 -- What the shows for an observer answer.
 abbrev pub show_answers : ℕ → List Call → List Answer → List Answer
-show_answers observer [] answers = []
-show_answers observer (call ∷ calls) [] = []
-show_answers observer (call ∷ calls) (answer ∷ answers) = cond (shows_to observer call) (answer ∷ []) [] ++ show_answers observer calls answers
+show_answers observer calls answers = flat_map (λ made. cond (shows_to observer made.0) (made.1 ∷ []) []) (zip calls answers)
 
 -- Differing bytes: places where two sheets hold unequal bytes or only one holds any.
 abbrev pub differing : List ℕ → List ℕ → ℕ
@@ -88,8 +84,7 @@ end_in unsealed = []
 end_in (not_allowed _) = []
 
 abbrev pub ends : List Answer → List ℕ
-ends [] = []
-ends (answer ∷ answers) = end_in answer ++ ends answers
+ends answers = flat_map end_in answers
 
 -- The state after a call; a call that is not allowed leaves it.
 abbrev pub state_after : State → Outcome → State

@@ -6,7 +6,7 @@ use lattice::Lattice;
 // A lattice, and the level of each variable. That the lattice stays is a clause of each call: no type says what a call
 // leaves as it was.
 #[derive(Drop)]
-pub struct Grades<L> {
+pub(crate) struct Grades<L> {
     pub(crate) lattice: L,
     pub(crate) levels: [u16; VARIABLES],
     ghost sized: { length levels ≡ 32 },

@@ -14,7 +14,7 @@ use std::alloc::{AllocError, Global};
 
 // A controller in whichever state it is.
 #[derive(Drop)]
-pub enum Phase<L> {
+pub(crate) enum Phase<L> {
     Setup(Setup<L>),
     Ready(Ready<L>),
     Running(Running<L>),
@@ -34,14 +34,7 @@ fn call_in_setup<L: Lattice + Drop>(mut setup: Setup<L>, call: Call) -> Step<L>
             Some((Phase::Setup(setup), Answer::Graded(answer)))
         }
         Call::Seal => Some((Phase::Ready(setup.seal()), Answer::Sealed)),
-        Call::Mount(_)
-        | Call::Set { .. }
-        | Call::Read(_)
-        | Call::Show { .. }
-        | Call::Start
-        | Call::Advance(_)
-        | Call::End
-        | Call::Unseal => None,
+        _ => None,
     }
 }
 
@@ -59,14 +52,7 @@ fn call_while_running<L: Lattice + Drop>(mut running: Running<L>, call: Call) ->
             let (ready, ending) = running.end();
             Some((Phase::Ready(ready), Answer::Ended(ending)))
         }
-        Call::Grade { .. }
-        | Call::Seal
-        | Call::Mount(_)
-        | Call::Set { .. }
-        | Call::Read(_)
-        | Call::Show { .. }
-        | Call::Start
-        | Call::Unseal => None,
+        _ => None,
     }
 }
 
@@ -109,7 +95,7 @@ fn call_when_ready<L: Lattice + Drop>(
         }
         Call::Start => return Ok(Some((Phase::Running(ready.start()), Answer::Started))),
         Call::Unseal => return Ok(Some((Phase::Setup(ready.unseal()), Answer::Unsealed))),
-        Call::Grade { .. } | Call::Seal | Call::Advance(_) | Call::End => return Ok(None),
+        _ => return Ok(None),
     };
     Ok(Some((Phase::Ready(ready), answer)))
 }

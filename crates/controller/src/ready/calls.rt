@@ -40,8 +40,10 @@ impl<L: Lattice> Ready<L> {
     pub fn read(&self, variable: u8) -> Result<i32, Refusal>
         ensures { read_answer result ≡ read_outcome (ready_state self.now) variable }
     {
-        let index = index_of(variable)?;
-        Ok(self.values[index])
+        self.values
+            .get(usize::from(variable))
+            .copied()
+            .ok_or(Refusal::NoVariable)
     }
 
     // Writes an observer's sheet to the front of the buffer, and answers how many variables it holds.

@@ -22,7 +22,7 @@ fn line(variable: u8, value: i32) -> [u8; LINE]
 
 impl<L: Lattice> Ready<L> {
     // Writes the lines of the open variables, in rising order, to the front of the buffer.
-    #[tactic(auto, using(crate::proofs::SheetFacts::room))]
+    #[tactic(auto, using(crate::proofs::SheetFacts::room, crate::proofs::SheetFacts::open_none, crate::proofs::SheetFacts::lines_none))]
     pub(crate) fn write_open(&self, observer: u16, buffer: &mut [u8])
         requires { 5 * open_count (L.Lattice.order self.now.grades.lattice) (ready_state self.now) observer ≤ length buffer.old }
         ensures { buffer.new ≡ sheet_of (L.Lattice.order self.now.grades.lattice) (ready_state self.now) observer ++ drop (5 * open_count (L.Lattice.order self.now.grades.lattice) (ready_state self.now) observer) buffer.old }
