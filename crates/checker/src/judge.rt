@@ -36,10 +36,7 @@ fn first_fault<F: Fn(u8) -> Result<(), MountFault>>(end: u8, fault_at: F) -> Res
     requires { F.IsAlwaysCallable fault_at }
     ensures { FindsFirstFault (F.post fault_at) end result }
 {
-    for label in 0..end {
-        fault_at(label)?;
-    }
-    Ok(())
+    (0..end).try_for_each(fault_at)
 }
 
 // Sees that every claim record of a job is like its description.
