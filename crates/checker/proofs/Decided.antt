@@ -1,6 +1,6 @@
 -- Each rule's test decides the relation that the rule names. Assumes nothing.
 use Rattle.std.proofs.Common.{◌≡◌, ℕ, zero, suc, ◌+◌, ◌-◌, ◌<◌, ◌≤◌, Bool, true, false, not, ◌||◌, eqb, leb, List, [], ◌∷◌, ◌++◌, map, length, get_or, Some, None, Decides, Option, sym, refl, ap, ◌∙◌, subst, ⊎_elim, arith, length-append}
-use Rattle.std.proofs.lemmas.Bool.{and_parts, and_from, leb-true, le-leb, eq-eqb, ne_eqb, cases_Bool, cases_eq, cond-true, cond-false, false≢true}
+use Rattle.std.proofs.lemmas.Bool.{and_parts, and_from, leb-true, le-leb, eq-eqb, ne_eqb, cases_Bool, cases_eq, cond-true, cond-false, false≢true, false_from_ne_true}
 use Rattle.lattice.specs.Order.{Order}
 use Rattle.push.specs.declared.instruction.Instruction.{Instruction}
 use Rattle.push.specs.declared.instruction.Instruction.TheVariants.{Load, Store, Push, Add, Sub, Eq, Less, Not, Goto, GotoF}
@@ -126,8 +126,7 @@ module _ (o : Order) (job : ProgramWithClaims) (few : exit job ≤ 128) (label :
   marks = region job.code j label
 
   pub exit_unmarked : AvoidsExit job label (GotoF m j) → get_or marks (exit job) false ≡ false
-  exit_unmarked k =
-      ⊎_elim (λ (h : get_or marks (exit job) false ≡ true). absurd (k m j refl (marks_are_region job.code j label (exit job) h))) (λ (h : get_or marks (exit job) false ≡ false). h) (cases_Bool (get_or marks (exit job) false))
+  exit_unmarked k = false_from_ne_true (get_or marks (exit job) false) (λ h. k m j refl (marks_are_region job.code j label (exit job) h))
 
   pub avoids : get_or marks (exit job) false ≡ false → AvoidsExit job label (GotoF m j)
   avoids h m' j' e r =

@@ -4,6 +4,7 @@ use Rattle.std.proofs.Common.{◌≡◌, ℕ, ◌+◌, ◌<◌, ◌≤◌, Bool,
 use Rattle.std.proofs.lemmas.Bool.{eqb-true, eqb-false}
 use Rattle.std.proofs.lemmas.List.{set-get_or}
 use Rattle.lattice.specs.Order.{Order, Laws}
+use Rattle.lattice.specs.Levels.{join_level}
 use Rattle.push.specs.declared.instruction.Instruction.{Instruction}
 use Rattle.push.specs.declared.instruction.Instruction.TheVariants.{Add}
 use Rattle.push.specs.declared.value.Value.{Value}
@@ -26,7 +27,7 @@ use Rattle.checker.proofs.SoundFacts as sound
 use Rattle.checker.proofs.SoundFacts.{Levels}
 use Rattle.checker.proofs.Leaves as leaving
 use Rattle.checker.proofs.Leaves.{Leaves}
-use Rattle.checker.proofs.Agreeing.{Agree, same_int, same_flag, agree_under, low_right, join_level}
+use Rattle.checker.proofs.Agreeing.{Agree, same_int, same_flag, agree_under, low_right}
 use Rattle.checker.specs.Flow.{SameWhenOpen, LevelsOfVariables}
 use Rattle.checker.proofs.OpenFacts.{same_here, same_then, written}
 use Rattle.checker.proofs.Typing.{Fits, fits_int, fits_flag, fits_length, fits_under, either, rule_within, one_way, Accepted, at_label}
@@ -118,13 +119,13 @@ module _ (o : Order) (w : ℕ) where
       hidden_step {t = t} at_l (leaving.push {x = x} room) ls vs sized f k =
           record { next = l + 1; stack = Int x ∷ t; values = vs; by_rule = rule.push at_l (omega (arith, fits_length f)); among = here; fits = fits_int f; keeps = above closed k; unchanged = same_here vs sized }
       hidden_step at_l (leaving.add {a = a} {b = b}) (sound.more ha (sound.more hb ls)) vs sized (fits_int {x = x} (fits_int {x = u} {s = t} f)) k =
-          record { next = l + 1; stack = Int (sum u x) ∷ t; values = vs; by_rule = rule.add at_l; among = here; fits = fits_int f; keeps = above (closed_join (o.join a b) (join_level o w laws a b ha hb)) (keeps_pop (keeps_pop k)); unchanged = same_here vs sized }
+          record { next = l + 1; stack = Int (sum u x) ∷ t; values = vs; by_rule = rule.add at_l; among = here; fits = fits_int f; keeps = above (closed_join (o.join a b) (join_level o laws a b ha hb)) (keeps_pop (keeps_pop k)); unchanged = same_here vs sized }
       hidden_step at_l (leaving.sub {a = a} {b = b}) (sound.more ha (sound.more hb ls)) vs sized (fits_int {x = x} (fits_int {x = u} {s = t} f)) k =
-          record { next = l + 1; stack = Int (difference u x) ∷ t; values = vs; by_rule = rule.sub at_l; among = here; fits = fits_int f; keeps = above (closed_join (o.join a b) (join_level o w laws a b ha hb)) (keeps_pop (keeps_pop k)); unchanged = same_here vs sized }
+          record { next = l + 1; stack = Int (difference u x) ∷ t; values = vs; by_rule = rule.sub at_l; among = here; fits = fits_int f; keeps = above (closed_join (o.join a b) (join_level o laws a b ha hb)) (keeps_pop (keeps_pop k)); unchanged = same_here vs sized }
       hidden_step at_l (leaving.eq {a = a} {b = b}) (sound.more ha (sound.more hb ls)) vs sized (fits_int {x = x} (fits_int {x = u} {s = t} f)) k =
-          record { next = l + 1; stack = Flag (same u x) ∷ t; values = vs; by_rule = rule.eq at_l; among = here; fits = fits_flag f; keeps = above (closed_join (o.join a b) (join_level o w laws a b ha hb)) (keeps_pop (keeps_pop k)); unchanged = same_here vs sized }
+          record { next = l + 1; stack = Flag (same u x) ∷ t; values = vs; by_rule = rule.eq at_l; among = here; fits = fits_flag f; keeps = above (closed_join (o.join a b) (join_level o laws a b ha hb)) (keeps_pop (keeps_pop k)); unchanged = same_here vs sized }
       hidden_step at_l (leaving.lower {a = a} {b = b}) (sound.more ha (sound.more hb ls)) vs sized (fits_int {x = x} (fits_int {x = u} {s = t} f)) k =
-          record { next = l + 1; stack = Flag (less u x) ∷ t; values = vs; by_rule = rule.lower at_l; among = here; fits = fits_flag f; keeps = above (closed_join (o.join a b) (join_level o w laws a b ha hb)) (keeps_pop (keeps_pop k)); unchanged = same_here vs sized }
+          record { next = l + 1; stack = Flag (less u x) ∷ t; values = vs; by_rule = rule.lower at_l; among = here; fits = fits_flag f; keeps = above (closed_join (o.join a b) (join_level o laws a b ha hb)) (keeps_pop (keeps_pop k)); unchanged = same_here vs sized }
       hidden_step at_l (leaving.turn {a = a}) (sound.more ha ls) vs sized (fits_flag {b = b} {s = t} f) k =
           record { next = l + 1; stack = Flag (not b) ∷ t; values = vs; by_rule = rule.turn at_l; among = here; fits = fits_flag f; keeps = above (closed_join a ha) (keeps_pop k); unchanged = same_here vs sized }
       hidden_step {t = t} at_l (leaving.goto {m = m}) ls vs sized f k =
