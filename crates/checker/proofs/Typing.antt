@@ -1,7 +1,7 @@
 -- At a claimed label the stack has the claim's depth and kinds, and a step keeps this; so no run of an accepted job
 -- faults. Assumes the laws of the order.
-use Rattle.std.proofs.Common.{◌≡◌, ℕ, ◌+◌, ◌<◌, ◌≤◌, Bool, true, false, cond, not, ltb, ◌⊎◌, List, [], ◌∷◌, length, get_or, set, ℤ, pos, Some, sym, refl, ap, ◌∙◌, subst, inl, inr, ⊎_elim, arith}
-use Rattle.std.proofs.lemmas.Bool.{ltb-true, ltb-false}
+use Rattle.std.proofs.Common.{◌≡◌, ℕ, ◌+◌, ◌<◌, ◌≤◌, Bool, true, false, cond, not, ◌⊎◌, List, [], ◌∷◌, length, get_or, set, ℤ, pos, Some, sym, refl, ap, ◌∙◌, subst, inl, inr, ⊎_elim, arith}
+use Rattle.std.proofs.lemmas.Bool.{cases_lt}
 use Rattle.lattice.specs.Order.{Order, Laws}
 use Rattle.push.specs.declared.instruction.Instruction.{Instruction}
 use Rattle.push.specs.declared.instruction.Instruction.TheVariants.{Load, Store, Push, Add, Sub, Eq, Less, Not, Goto, GotoF}
@@ -14,8 +14,7 @@ use Rattle.push.specs.Machine as rule
 use Rattle.push.specs.Machine.{Machine, at, ◌⊢◌⟶◌, perform, step}
 use Rattle.push.specs.Run as steps
 use Rattle.push.specs.Run.{Steps, label_of}
-use Rattle.std.proofs.lemmas.Option.{slice_get-get_or, slice_get_past}
-use Rattle.std.proofs.lemmas.Option.{none-some, same_Some}
+use Rattle.std.proofs.lemmas.Option.{slice_get-get_or, slice_get_past, none-some, same_Some}
 use Rattle.push.proofs.StepFacts.{rule_steps}
 use Rattle.job.specs.declared.claim.Place.{Place}
 use Rattle.job.specs.declared.claim.Place.TheVariants.{IntegerAt, BooleanAt}
@@ -29,17 +28,10 @@ use Rattle.checker.proofs.SoundFacts.{Sound, Levels}
 use Rattle.checker.proofs.Leaves as leaving
 use Rattle.checker.proofs.Leaves.{Leaves, kept_leaves}
 
-pub below_or_not : (a b : ℕ) → (a < b) ⊎ (b ≤ a)
-below_or_not a b = by (ltb a b) refl
-  where
-    by : (t : Bool) → ltb a b ≡ t → (a < b) ⊎ (b ≤ a)
-    by true e = inl (ltb-true a b e)
-    by false e = inr (ltb-false a b e)
-
 -- The rules apply only below the exit, and leave only one way.
 module _ (code : List Instruction) where
   pub rule_within : (l : ℕ) (s : List Value) (vs : List ℤ) (n : Machine) → code ⊢ at l s vs ⟶ n → l < length code
-  rule_within l s vs n r = ⊎_elim (λ h. h) (λ h. absurd (none-some n (sym (ap (λ i. perform i l s vs) (slice_get_past code l h)) ∙ rule_steps code r))) (below_or_not l (length code))
+  rule_within l s vs n r = ⊎_elim (λ h. h) (λ h. absurd (none-some n (sym (ap (λ i. perform i l s vs) (slice_get_past code l h)) ∙ rule_steps code r))) (cases_lt l (length code))
 
   pub one_way : (m n o : Machine) → code ⊢ m ⟶ n → code ⊢ m ⟶ o → n ≡ o
   one_way m n o r q = same_Some _ _ (sym (rule_steps code r) ∙ rule_steps code q)
@@ -141,10 +133,7 @@ module _ (o : Order) (laws : Laws o) (levels : List ℕ) (job : ProgramWithClaim
 
   arrives : {l : ℕ} {s : List Value} {vs : List ℤ} {ps : List Place} → l ≤ exit job → Takes o job ps l → Fits ps s → Typed (at l s vs)
   arrives le (at_exit e empty) f = typed_exit e
-  arrives {l} le (by_claim other has u) f = typed_claim (strictly l (exit job) le other) has (fits_under u f)
-    where
-      strictly : (a b : ℕ) → a ≤ b → (a ≡ b → ⊥) → a < b
-      strictly a b le ne = ⊎_elim (λ h. h) (λ h. absurd (ne (omega arith))) (below_or_not a b)
+  arrives le (by_claim other has u) f = typed_claim (omega (arith, le, other)) has (fits_under u f)
 
   some_instruction : (l : ℕ) → l < exit job → (i : Instruction) × (fetch job.code l ≡ Some i)
   some_instruction l lt = (get_or job.code l Add, slice_get-get_or job.code l Add lt)
@@ -165,7 +154,7 @@ module _ (o : Order) (laws : Laws o) (levels : List ℕ) (job : ProgramWithClaim
       at_the_exit (at l s vs) n r e = let lt = rule_within job.code l s vs n r in absurd (omega arith)
 
   starts : (values : List ℤ) → Typed (at 0 [] values)
-  starts values = ⊎_elim (λ e. typed_exit (sym e)) (λ first. by first.0 first.1 first.2 (below_or_not 0 (exit job))) acc.well.entry
+  starts values = ⊎_elim (λ e. typed_exit (sym e)) (λ first. by first.0 first.1 first.2 (cases_lt 0 (exit job))) acc.well.entry
     where
       by : (c : Claimed) → job.claim 0 ≡ Some c → c.stack ≡ [] → (0 < exit job) ⊎ (exit job ≤ 0) → Typed (at 0 [] values)
       by c has empty (inl some) = typed_claim some has (subst (λ ps. Fits ps []) (sym empty) fits_none)
