@@ -53,7 +53,7 @@ module _ (o : Order) (w : ℕ) where
     agree_under (boolean {a = a} {b = b} le u) (same_flag h r) = same_flag (λ low. h (laws.transitive a b w le low)) (agree_under u r)
 
     -- what is open of a join is open of its parts
-    pub low_left : (a b : ℕ) → a < o.span → b < o.span → o.at_most (o.join a b) w ≡ true → o.at_most a w ≡ true
+    low_left : (a b : ℕ) → a < o.span → b < o.span → o.at_most (o.join a b) w ≡ true → o.at_most a w ≡ true
     low_left a b ha hb h = laws.transitive a (o.join a b) w (laws.join_left a b ha hb) h
 
     pub low_right : (a b : ℕ) → a < o.span → b < o.span → o.at_most (o.join a b) w ≡ true → o.at_most b w ≡ true

@@ -1,5 +1,5 @@
 -- Each rule's test decides the relation that the rule names. Assumes nothing.
-use Rattle.std.proofs.Common.{◌≡◌, ℕ, zero, suc, ◌+◌, ◌-◌, ◌<◌, ◌≤◌, Bool, true, false, not, ◌||◌, eqb, leb, List, [], ◌∷◌, ◌++◌, map, length, get_or, Some, None, Decides, Option, sym, refl, ap, ◌∙◌, subst, ⊎_elim, arith, length-append}
+use Rattle.std.proofs.Common.{◌≡◌, ℕ, ◌+◌, ◌-◌, ◌≤◌, Bool, true, false, not, ◌||◌, eqb, leb, List, [], ◌∷◌, ◌++◌, map, length, get_or, Some, None, Decides, Option, sym, refl, ap, ◌∙◌, subst, ⊎_elim, arith, length-append}
 use Rattle.std.proofs.lemmas.Bool.{and_parts, and_from, leb-true, le-leb, eq-eqb, ne_eqb, cases_Bool, cases_eq, cond-true, cond-false, false≢true, false_from_ne_true}
 use Rattle.lattice.specs.Order.{Order}
 use Rattle.push.specs.declared.instruction.Instruction.{Instruction}
@@ -9,7 +9,7 @@ use Rattle.push.specs.declared.kind.Kind.TheVariants.{Integer, Boolean}
 use Rattle.push.specs.Language.{pops, pushes, optional, begins, successors}
 use Rattle.job.specs.declared.claim.Place.{Place}
 use Rattle.job.specs.declared.claim.Place.TheVariants.{IntegerAt, BooleanAt}
-use Rattle.job.specs.Records.{Claimed, kind, all_below}
+use Rattle.job.specs.Records.{Claimed, kind}
 use Rattle.job.proofs.AllBelow.{all_below_holds, all_below_from}
 use Rattle.checker.specs.Leaving.{joined_one, leaves, level_at, all_fit_under}
 use Rattle.checker.specs.Rules.{ProgramWithClaims, exit, is_empty, claim_takes, takes, all_take, fits_its_stack, stores_upward, successors_take}

@@ -101,7 +101,7 @@ module _ (o : Order) (levels : List ℕ) (job : ProgramWithClaims) (label : ℕ)
   chosen x y z p q r = ap (λ b. cond b (cond b2 (cond b3 0 13) 12) 11) p ∙ ap (λ b. cond x (cond b (cond b3 0 13) 12) 11) q ∙ ap (λ b. cond x (cond y (cond b 0 13) 12) 11) r
 
   -- the label keeps the rules, or breaks the one whose number it has
-  pub label_judged : (LabelKept o levels job label c i × (rule_at o levels job label c i ≡ 0)) ⊎ (LabelBreaks o levels job label c i (rule_at o levels job label c i) × (rule_at o levels job label c i ≢ 0))
+  label_judged : (LabelKept o levels job label c i × (rule_at o levels job label c i ≡ 0)) ⊎ (LabelBreaks o levels job label c i (rule_at o levels job label c i) × (rule_at o levels job label c i ≢ 0))
   unfolding b1 b2 b3
   label_judged =
       let d1 = decides_fits c i in
@@ -134,7 +134,7 @@ module _ (o : Order) (job : ProgramWithClaims) (label : ℕ) (c : Claimed) where
   no_branch : (i : Instruction) → ((m j : ℕ) → i ≡ GotoF m j → ⊥) → BranchKept o job label c i
   no_branch i h = record { avoids = λ m j e r. h m j e; raised = λ m j inside e r w. absurd (h m j e) }
 
-  pub branch_judged : (few : exit job ≤ 128) (i : Instruction) → BranchJudged o job label c i
+  branch_judged : (few : exit job ≤ 128) (i : Instruction) → BranchJudged o job label c i
   branch_judged few (Load v) = inl (no_branch (Load v) (λ m j e. let no : ◌≡◌ {A = ℕ} 0 1 = cc in omega arith), refl)
   branch_judged few (Store v) = inl (no_branch (Store v) (λ m j e. let no : ◌≡◌ {A = ℕ} 0 1 = cc in omega arith), refl)
   branch_judged few (Push x) = inl (no_branch (Push x) (λ m j e. let no : ◌≡◌ {A = ℕ} 0 1 = cc in omega arith), refl)

@@ -13,7 +13,7 @@ use Rattle.job.specs.Records.{Claimed}
 use Rattle.checker.specs.Leaving.{pushed, leaves, fits_under, all_fit_under}
 
 -- A place is pushed where the language's table says that a kind is.
-pub pushed_as_listed : (o : Order) (levels : List ℕ) (c : Claimed) (i : Instruction) → length (optional (pushed o levels c i)) ≡ length (optional (pushes i))
+pushed_as_listed : (o : Order) (levels : List ℕ) (c : Claimed) (i : Instruction) → length (optional (pushed o levels c i)) ≡ length (optional (pushes i))
 pushed_as_listed o levels c (Load v) = refl
 pushed_as_listed o levels c (Store v) = refl
 pushed_as_listed o levels c (Push x) = refl

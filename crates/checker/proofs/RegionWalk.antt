@@ -16,8 +16,7 @@ use Rattle.push.specs.Machine as rule
 use Rattle.push.specs.Machine.{Machine, at, ◌⊢◌⟶◌, step}
 use Rattle.push.specs.Run as steps
 use Rattle.push.specs.Run.{Steps, label_of}
-use Rattle.std.proofs.lemmas.Option.{slice_get-get_or}
-use Rattle.std.proofs.lemmas.Option.{same_Some}
+use Rattle.std.proofs.lemmas.Option.{slice_get-get_or, same_Some}
 use Rattle.job.specs.declared.claim.Place.{Place}
 use Rattle.job.specs.Records.{Claimed, level}
 use Rattle.checker.specs.Rules.{ProgramWithClaims, exit}
@@ -48,7 +47,7 @@ module _ (o : Order) (w : ℕ) where
   end_pop (kept (boolean h u)) = under (kept u)
   end_pop (under e) = under (end_pop e)
 
-  pub keeps_pop : {p : Place} {x : Value} {ps qs : List Place} {s t : List Value} → Keeps ps s (p ∷ qs) (x ∷ t) → Keeps ps s qs t
+  keeps_pop : {p : Place} {x : Value} {ps qs : List Place} {s t : List Value} → Keeps ps s (p ∷ qs) (x ∷ t) → Keeps ps s qs t
   keeps_pop (low e) = low (end_pop e)
   keeps_pop (above h k) = k
 
@@ -71,7 +70,7 @@ module _ (o : Order) (w : ℕ) where
     end_under v (kept u) = kept (under_then u v)
     end_under v (under e) = under (end_under v e)
 
-    pub keeps_under : {ps qs rs : List Place} {s t : List Value} → Under o qs rs → Keeps ps s qs t → Keeps ps s rs t
+    keeps_under : {ps qs rs : List Place} {s t : List Value} → Under o qs rs → Keeps ps s qs t → Keeps ps s rs t
     keeps_under v (low e) = low (end_under v e)
     keeps_under (integer {a = a} {b = b} h v) (above high k) = above (λ l. high (laws.transitive a b w h l)) (keeps_under v k)
     keeps_under (boolean {a = a} {b = b} h v) (above high k) = above (λ l. high (laws.transitive a b w h l)) (keeps_under v k)
@@ -111,7 +110,7 @@ module _ (o : Order) (w : ℕ) where
           let high : o.at_most (get_or levels v 0) w ≡ true → get_or vs v (pos 0) ≡ x = λ seen. absurd (closed_join a ha (laws.transitive (o.join a p) (get_or levels v 0) w up seen)) in
           subst (λ us. SameWhenOpen o levels w us (set vs v x)) (set-get_or vs v (pos 0)) (written v (get_or vs v (pos 0)) x vs vs small high (same_here vs sized))
 
-      pub hidden_step : {i : Instruction} {ps qs rs : List Place} {s t : List Value} → fetch code l ≡ Some i → Leaves o levels p i qs rs → Levels o qs → (vs : List ℤ) → length vs ≡ 32 → Fits qs t → Keeps ps s qs t → Hidden i ps s rs t vs
+      hidden_step : {i : Instruction} {ps qs rs : List Place} {s t : List Value} → fetch code l ≡ Some i → Leaves o levels p i qs rs → Levels o qs → (vs : List ℤ) → length vs ≡ 32 → Fits qs t → Keeps ps s qs t → Hidden i ps s rs t vs
       hidden_step {t = t} at_l (leaving.load {v = v} small room) ls vs sized f k =
           record { next = l + 1; stack = Int (get_or vs v (pos 0)) ∷ t; values = vs; by_rule = rule.load at_l small (omega (arith, fits_length f)); among = here; fits = fits_int f; keeps = above (closed_join (get_or levels v 0) (graded v small)) k; unchanged = same_here vs sized }
       hidden_step at_l (leaving.store {v = v} {a = a} small up) (sound.more ha ls) vs sized (fits_int {x = x} {s = t} f) k =

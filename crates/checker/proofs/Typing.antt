@@ -138,7 +138,7 @@ module _ (o : Order) (laws : Laws o) (levels : List ℕ) (job : ProgramWithClaim
   some_instruction : (l : ℕ) → l < exit job → (i : Instruction) × (fetch job.code l ≡ Some i)
   some_instruction l lt = (get_or job.code l Add, slice_get-get_or job.code l Add lt)
 
-  pub typed_goes : (m : Machine) → Typed m → (label_of m ≡ exit job) ⊎ ((n : Machine) × (job.code ⊢ m ⟶ n) × Typed n)
+  typed_goes : (m : Machine) → Typed m → (label_of m ≡ exit job) ⊎ ((n : Machine) × (job.code ⊢ m ⟶ n) × Typed n)
   typed_goes (at l s vs) (typed_exit e) = inl e
   typed_goes (at l s vs) (typed_claim {c = c} lt has f) =
       let some = some_instruction l lt in
@@ -146,7 +146,7 @@ module _ (o : Order) (laws : Laws o) (levels : List ℕ) (job : ProgramWithClaim
       let step = goes o levels job.code c.surrounding l some.1 here.left vs f in
       inr (at step.next step.stack step.values, step.by_rule, arrives (here.within step.next step.among) (here.taken step.next step.among) step.fits)
 
-  pub stays_typed : {k : ℕ} {m n : Machine} → Steps job.code k m n → Typed m → Typed n
+  stays_typed : {k : ℕ} {m n : Machine} → Steps job.code k m n → Typed m → Typed n
   stays_typed steps.none t = t
   stays_typed {m = m} (steps.more {n = n} r rest) t = stays_typed rest (⊎_elim (λ e. absurd (at_the_exit m n r e)) (λ g. subst Typed (one_way job.code m g.0 n g.1 r) g.2) (typed_goes m t))
     where
