@@ -45,16 +45,16 @@ decides_fits c i =
     )
 
 pub decides_stores : (o : Order) (levels : List ℕ) (c : Claimed) (i : Instruction) → Decides (stores_upward o levels c i) (StoresUpward o levels c i)
-decides_stores o levels c (Load w) = (λ _ v e. let no : ◌≡◌ {A = ℕ} 0 1 = cc in absurd (omega arith), λ _. refl)
+decides_stores o levels c (Load w) = (λ _ v e. cc, λ _. refl)
 decides_stores o levels c (Store w) = (λ h v e. let same : w ≡ v = cc in ap (λ u. o.at_most (joined_one o c) (get_or levels u 0)) (sym same) ∙ h, λ k. k w refl)
-decides_stores o levels c (Push x) = (λ _ v e. let no : ◌≡◌ {A = ℕ} 0 1 = cc in absurd (omega arith), λ _. refl)
-decides_stores o levels c Add = (λ _ v e. let no : ◌≡◌ {A = ℕ} 0 1 = cc in absurd (omega arith), λ _. refl)
-decides_stores o levels c Sub = (λ _ v e. let no : ◌≡◌ {A = ℕ} 0 1 = cc in absurd (omega arith), λ _. refl)
-decides_stores o levels c Eq = (λ _ v e. let no : ◌≡◌ {A = ℕ} 0 1 = cc in absurd (omega arith), λ _. refl)
-decides_stores o levels c Less = (λ _ v e. let no : ◌≡◌ {A = ℕ} 0 1 = cc in absurd (omega arith), λ _. refl)
-decides_stores o levels c Not = (λ _ v e. let no : ◌≡◌ {A = ℕ} 0 1 = cc in absurd (omega arith), λ _. refl)
-decides_stores o levels c (Goto m) = (λ _ v e. let no : ◌≡◌ {A = ℕ} 0 1 = cc in absurd (omega arith), λ _. refl)
-decides_stores o levels c (GotoF m j) = (λ _ v e. let no : ◌≡◌ {A = ℕ} 0 1 = cc in absurd (omega arith), λ _. refl)
+decides_stores o levels c (Push x) = (λ _ v e. cc, λ _. refl)
+decides_stores o levels c Add = (λ _ v e. cc, λ _. refl)
+decides_stores o levels c Sub = (λ _ v e. cc, λ _. refl)
+decides_stores o levels c Eq = (λ _ v e. cc, λ _. refl)
+decides_stores o levels c Less = (λ _ v e. cc, λ _. refl)
+decides_stores o levels c Not = (λ _ v e. cc, λ _. refl)
+decides_stores o levels c (Goto m) = (λ _ v e. cc, λ _. refl)
+decides_stores o levels c (GotoF m j) = (λ _ v e. cc, λ _. refl)
 
 under : (o : Order) (ps qs : List Place) → all_fit_under o ps qs ≡ true → Under o ps qs
 under o [] [] h = none
