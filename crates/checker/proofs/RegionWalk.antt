@@ -92,15 +92,15 @@ module _ (o : Order) (w : ℕ) where
 
     module _ (levels : List ℕ) (graded : LevelsOfVariables o levels) (code : List Instruction) (p l : ℕ) (hp : p < o.span) (closed : o.at_most p w ≡ true → ⊥) where
       -- One step at a label that is surrounded by a closed level.
-      pub record Hidden (i : Instruction) (ps : List Place) (s : List Value) (qs : List Place) (t : List Value) (vs : List ℤ) : Type 0 where
-        pub next : ℕ
-        pub stack : List Value
-        pub values : List ℤ
-        pub by_rule : code ⊢ at l t vs ⟶ at next stack values
-        pub among : Among next (successors i l)
-        pub fits : Fits qs stack
-        pub keeps : Keeps ps s qs stack
-        pub unchanged : SameWhenOpen o levels w vs values
+      record Hidden (i : Instruction) (ps : List Place) (s : List Value) (qs : List Place) (t : List Value) (vs : List ℤ) : Type 0 where
+        next : ℕ
+        stack : List Value
+        values : List ℤ
+        by_rule : code ⊢ at l t vs ⟶ at next stack values
+        among : Among next (successors i l)
+        fits : Fits qs stack
+        keeps : Keeps ps s qs stack
+        unchanged : SameWhenOpen o levels w vs values
 
       closed_join : (a : ℕ) → a < o.span → o.at_most (o.join a p) w ≡ true → ⊥
       closed_join a ha h = closed (low_right o w laws a p ha hp h)

@@ -53,20 +53,20 @@ fits_under (integer h u) (fits_int f) = fits_int (fits_under u f)
 fits_under (boolean h u) (fits_flag f) = fits_flag (fits_under u f)
 
 -- One step from a label: by a rule, to a successor, with a stack that fits what leaves.
-pub record Goes (code : List Instruction) (i : Instruction) (l : ℕ) (s : List Value) (vs : List ℤ) (qs : List Place) : Type 0 where
-  pub next : ℕ
-  pub stack : List Value
-  pub values : List ℤ
-  pub by_rule : code ⊢ at l s vs ⟶ at next stack values
-  pub among : Among next (successors i l)
-  pub fits : Fits qs stack
+record Goes (code : List Instruction) (i : Instruction) (l : ℕ) (s : List Value) (vs : List ℤ) (qs : List Place) : Type 0 where
+  next : ℕ
+  stack : List Value
+  values : List ℤ
+  by_rule : code ⊢ at l s vs ⟶ at next stack values
+  among : Among next (successors i l)
+  fits : Fits qs stack
 
 pub either : (l m : ℕ) (b : Bool) → Among (cond b (l + 1) m) ((l + 1) ∷ m ∷ [])
 either l m true = here
 either l m false = there here
 
 module _ (o : Order) (levels : List ℕ) (code : List Instruction) (p l : ℕ) where
-  pub goes : {i : Instruction} {ps qs : List Place} → fetch code l ≡ Some i → Leaves o levels p i ps qs → {s : List Value} (vs : List ℤ) → Fits ps s → Goes code i l s vs qs
+  goes : {i : Instruction} {ps qs : List Place} → fetch code l ≡ Some i → Leaves o levels p i ps qs → {s : List Value} (vs : List ℤ) → Fits ps s → Goes code i l s vs qs
   goes at_l (leaving.load {v = v} {ps = ps} small room) {s} vs f = record { next = l + 1; stack = Int (get_or vs v (pos 0)) ∷ s; values = vs; by_rule = rule.load at_l small (omega (arith, fits_length f)); among = here; fits = fits_int f }
   goes at_l (leaving.store {v = v} small up) vs (fits_int {x = t} {s = s} f) = record { next = l + 1; stack = s; values = set vs v t; by_rule = rule.store at_l small; among = here; fits = f }
   goes at_l (leaving.push {x = x} room) {s} vs f = record { next = l + 1; stack = Int x ∷ s; values = vs; by_rule = rule.push at_l (omega (arith, fits_length f)); among = here; fits = fits_int f }
@@ -104,22 +104,16 @@ successors_within n l next (GotoF m j) (sound.branch h) lt (there a) = omega (ar
 module _ (o : Order) (laws : Laws o) (levels : List ℕ) (job : ProgramWithClaims) (acc : Accepted o levels job) where
   -- What a claimed label with an instruction leaves.
   pub record AtLabel (l : ℕ) (c : Claimed) (i : Instruction) : Type 0 where
-    pub below : l < exit job
-    pub claimed : job.claim l ≡ Some c
-    pub fetched : fetch job.code l ≡ Some i
     pub places : List Place
     pub left : Leaves o levels c.surrounding i c.stack places
     pub taken : (next : ℕ) → Among next (successors i l) → Takes o job places next
-    pub within : (next : ℕ) → Among next (successors i l) → next ≤ exit job
+    within : (next : ℕ) → Among next (successors i l) → next ≤ exit job
 
   pub at_label : (l : ℕ) (c : Claimed) (i : Instruction) → l < exit job → job.claim l ≡ Some c → fetch job.code l ≡ Some i → AtLabel l c i
   at_label l c i lt has at_l =
       let kept = acc.well.labels l lt c i has at_l in
       let out = kept_leaves o laws levels job (exit job) c.surrounding c.stack i (acc.sound l i at_l) (acc.leveled l c lt has).1 kept.fits kept.stores in
       record {
-        below = lt;
-        claimed = has;
-        fetched = at_l;
         places = out.places;
         left = out.left;
         taken = λ next a. out.taken next (kept.taken next a);
@@ -127,7 +121,7 @@ module _ (o : Order) (laws : Laws o) (levels : List ℕ) (job : ProgramWithClaim
       }
 
   -- A machine whose stack fits the claim of its label, or that is at the exit.
-  pub data Typed : Machine → Type 0 where
+  data Typed : Machine → Type 0 where
     typed_exit : {l : ℕ} {s : List Value} {vs : List ℤ} → l ≡ exit job → Typed (at l s vs)
     typed_claim : {l : ℕ} {s : List Value} {vs : List ℤ} {c : Claimed} → l < exit job → job.claim l ≡ Some c → Fits c.stack s → Typed (at l s vs)
 
