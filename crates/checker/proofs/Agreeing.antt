@@ -3,6 +3,7 @@
 use Rattle.std.proofs.Common.{◌≡◌, ℕ, ◌+◌, ◌<◌, Bool, true, false, cond, not, ◌⊎◌, List, [], ◌∷◌, get_or, set, ℤ, pos, Some, sym, refl, ap, ◌∙◌, subst, ap₂, inl, inr, arith}
 use Rattle.std.proofs.lemmas.Bool.{true≢false}
 use Rattle.lattice.specs.Order.{Order, Laws}
+use Rattle.lattice.specs.Levels.{join_level}
 use Rattle.push.specs.declared.instruction.Instruction.{Instruction}
 use Rattle.push.specs.declared.instruction.Instruction.TheVariants.{GotoF}
 use Rattle.push.specs.declared.value.Value.{Value}
@@ -52,14 +53,11 @@ module _ (o : Order) (w : ℕ) where
     agree_under (boolean {a = a} {b = b} le u) (same_flag h r) = same_flag (λ low. h (laws.transitive a b w le low)) (agree_under u r)
 
     -- what is open of a join is open of its parts
-    pub low_left : (a b : ℕ) → a < o.span → b < o.span → o.at_most (o.join a b) w ≡ true → o.at_most a w ≡ true
+    low_left : (a b : ℕ) → a < o.span → b < o.span → o.at_most (o.join a b) w ≡ true → o.at_most a w ≡ true
     low_left a b ha hb h = laws.transitive a (o.join a b) w (laws.join_left a b ha hb) h
 
     pub low_right : (a b : ℕ) → a < o.span → b < o.span → o.at_most (o.join a b) w ≡ true → o.at_most b w ≡ true
     low_right a b ha hb h = laws.transitive b (o.join a b) w (laws.join_right a b ha hb) h
-
-    pub join_level : (a b : ℕ) → a < o.span → b < o.span → o.join a b < o.span
-    join_level a b ha hb = (laws.only_levels a (o.join a b) (laws.join_left a b ha hb)).1
 
     module _ (levels : List ℕ) (graded : LevelsOfVariables o levels) (code : List Instruction) (p l : ℕ) (hp : p < o.span) where
       -- Both runs go on together.
@@ -77,10 +75,10 @@ module _ (o : Order) (w : ℕ) where
 
       -- an operand of what is open is open
       low_first : (a b : ℕ) → a < o.span → b < o.span → o.at_most (o.join (o.join a b) p) w ≡ true → o.at_most a w ≡ true
-      low_first a b ha hb h = low_left a b ha hb (low_left (o.join a b) p (join_level a b ha hb) hp h)
+      low_first a b ha hb h = low_left a b ha hb (low_left (o.join a b) p (join_level o laws a b ha hb) hp h)
 
       low_second : (a b : ℕ) → a < o.span → b < o.span → o.at_most (o.join (o.join a b) p) w ≡ true → o.at_most b w ≡ true
-      low_second a b ha hb h = low_right a b ha hb (low_left (o.join a b) p (join_level a b ha hb) hp h)
+      low_second a b ha hb h = low_right a b ha hb (low_left (o.join a b) p (join_level o laws a b ha hb) hp h)
 
       stored : (v a : ℕ) (x y : ℤ) (vs ws : List ℤ) → v < 32 → a < o.span → o.at_most (o.join a p) (get_or levels v 0) ≡ true → (o.at_most a w ≡ true → x ≡ y) → SameWhenOpen o levels w vs ws → SameWhenOpen o levels w (set vs v x) (set ws v y)
       stored v a x y vs ws small ha up h same = written v x y vs ws small (λ low. h (low_left a p ha hp (laws.transitive (o.join a p) (get_or levels v 0) w up low))) same

@@ -1,6 +1,6 @@
 -- Each rule's test decides the relation that the rule names. Assumes nothing.
-use Rattle.std.proofs.Common.{◌≡◌, ℕ, zero, suc, ◌+◌, ◌-◌, ◌<◌, ◌≤◌, Bool, true, false, not, ◌||◌, eqb, leb, List, [], ◌∷◌, ◌++◌, map, length, get_or, Some, None, Decides, Option, sym, refl, ap, ◌∙◌, subst, ⊎_elim, arith, length-append}
-use Rattle.std.proofs.lemmas.Bool.{and_parts, and_from, leb-true, le-leb, eq-eqb, ne_eqb, cases_Bool, cases_eq, cond-true, cond-false, false≢true}
+use Rattle.std.proofs.Common.{◌≡◌, ℕ, ◌+◌, ◌-◌, ◌≤◌, Bool, true, false, not, ◌||◌, eqb, leb, List, [], ◌∷◌, ◌++◌, map, length, get_or, Some, None, Decides, Option, sym, refl, ap, ◌∙◌, subst, ⊎_elim, arith, length-append}
+use Rattle.std.proofs.lemmas.Bool.{and_parts, and_from, leb-true, le-leb, eq-eqb, ne_eqb, cases_Bool, cases_eq, cond-true, cond-false, false≢true, false_from_ne_true}
 use Rattle.lattice.specs.Order.{Order}
 use Rattle.push.specs.declared.instruction.Instruction.{Instruction}
 use Rattle.push.specs.declared.instruction.Instruction.TheVariants.{Load, Store, Push, Add, Sub, Eq, Less, Not, Goto, GotoF}
@@ -9,7 +9,7 @@ use Rattle.push.specs.declared.kind.Kind.TheVariants.{Integer, Boolean}
 use Rattle.push.specs.Language.{pops, pushes, optional, begins, successors}
 use Rattle.job.specs.declared.claim.Place.{Place}
 use Rattle.job.specs.declared.claim.Place.TheVariants.{IntegerAt, BooleanAt}
-use Rattle.job.specs.Records.{Claimed, kind, all_below}
+use Rattle.job.specs.Records.{Claimed, kind}
 use Rattle.job.proofs.AllBelow.{all_below_holds, all_below_from}
 use Rattle.checker.specs.Leaving.{joined_one, leaves, level_at, all_fit_under}
 use Rattle.checker.specs.Rules.{ProgramWithClaims, exit, is_empty, claim_takes, takes, all_take, fits_its_stack, stores_upward, successors_take}
@@ -45,16 +45,16 @@ decides_fits c i =
     )
 
 pub decides_stores : (o : Order) (levels : List ℕ) (c : Claimed) (i : Instruction) → Decides (stores_upward o levels c i) (StoresUpward o levels c i)
-decides_stores o levels c (Load w) = (λ _ v e. let no : ◌≡◌ {A = ℕ} 0 1 = cc in absurd (omega arith), λ _. refl)
+decides_stores o levels c (Load w) = (λ _ v e. cc, λ _. refl)
 decides_stores o levels c (Store w) = (λ h v e. let same : w ≡ v = cc in ap (λ u. o.at_most (joined_one o c) (get_or levels u 0)) (sym same) ∙ h, λ k. k w refl)
-decides_stores o levels c (Push x) = (λ _ v e. let no : ◌≡◌ {A = ℕ} 0 1 = cc in absurd (omega arith), λ _. refl)
-decides_stores o levels c Add = (λ _ v e. let no : ◌≡◌ {A = ℕ} 0 1 = cc in absurd (omega arith), λ _. refl)
-decides_stores o levels c Sub = (λ _ v e. let no : ◌≡◌ {A = ℕ} 0 1 = cc in absurd (omega arith), λ _. refl)
-decides_stores o levels c Eq = (λ _ v e. let no : ◌≡◌ {A = ℕ} 0 1 = cc in absurd (omega arith), λ _. refl)
-decides_stores o levels c Less = (λ _ v e. let no : ◌≡◌ {A = ℕ} 0 1 = cc in absurd (omega arith), λ _. refl)
-decides_stores o levels c Not = (λ _ v e. let no : ◌≡◌ {A = ℕ} 0 1 = cc in absurd (omega arith), λ _. refl)
-decides_stores o levels c (Goto m) = (λ _ v e. let no : ◌≡◌ {A = ℕ} 0 1 = cc in absurd (omega arith), λ _. refl)
-decides_stores o levels c (GotoF m j) = (λ _ v e. let no : ◌≡◌ {A = ℕ} 0 1 = cc in absurd (omega arith), λ _. refl)
+decides_stores o levels c (Push x) = (λ _ v e. cc, λ _. refl)
+decides_stores o levels c Add = (λ _ v e. cc, λ _. refl)
+decides_stores o levels c Sub = (λ _ v e. cc, λ _. refl)
+decides_stores o levels c Eq = (λ _ v e. cc, λ _. refl)
+decides_stores o levels c Less = (λ _ v e. cc, λ _. refl)
+decides_stores o levels c Not = (λ _ v e. cc, λ _. refl)
+decides_stores o levels c (Goto m) = (λ _ v e. cc, λ _. refl)
+decides_stores o levels c (GotoF m j) = (λ _ v e. cc, λ _. refl)
 
 under : (o : Order) (ps qs : List Place) → all_fit_under o ps qs ≡ true → Under o ps qs
 under o [] [] h = none
@@ -126,8 +126,7 @@ module _ (o : Order) (job : ProgramWithClaims) (few : exit job ≤ 128) (label :
   marks = region job.code j label
 
   pub exit_unmarked : AvoidsExit job label (GotoF m j) → get_or marks (exit job) false ≡ false
-  exit_unmarked k =
-      ⊎_elim (λ (h : get_or marks (exit job) false ≡ true). absurd (k m j refl (marks_are_region job.code j label (exit job) h))) (λ (h : get_or marks (exit job) false ≡ false). h) (cases_Bool (get_or marks (exit job) false))
+  exit_unmarked k = false_from_ne_true (get_or marks (exit job) false) (λ h. k m j refl (marks_are_region job.code j label (exit job) h))
 
   pub avoids : get_or marks (exit job) false ≡ false → AvoidsExit job label (GotoF m j)
   avoids h m' j' e r =

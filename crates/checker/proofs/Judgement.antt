@@ -70,8 +70,8 @@ search_first rule (suc n) =
 -- A rule of labels that have a claim and an instruction.
 module _ (rule : Claimed → Instruction → ℕ) where
   where_zero : (oc : Option Claimed) (oi : Option Instruction) → where_claimed rule oc oi ≡ 0 → (c : Claimed) (i : Instruction) → oc ≡ Some c → oi ≡ Some i → rule c i ≡ 0
-  where_zero None oi h c i e f = let no : ◌≡◌ {A = ℕ} 0 1 = cc in absurd (omega arith)
-  where_zero (Some d) None h c i e f = let no : ◌≡◌ {A = ℕ} 0 1 = cc in absurd (omega arith)
+  where_zero None oi h c i e f = cc
+  where_zero (Some d) None h c i e f = cc
   where_zero (Some d) (Some k) h c i e f =
       let p : d ≡ c = cc in
       let q : k ≡ i = cc in
@@ -101,7 +101,7 @@ module _ (o : Order) (levels : List ℕ) (job : ProgramWithClaims) (label : ℕ)
   chosen x y z p q r = ap (λ b. cond b (cond b2 (cond b3 0 13) 12) 11) p ∙ ap (λ b. cond x (cond b (cond b3 0 13) 12) 11) q ∙ ap (λ b. cond x (cond y (cond b 0 13) 12) 11) r
 
   -- the label keeps the rules, or breaks the one whose number it has
-  pub label_judged : (LabelKept o levels job label c i × (rule_at o levels job label c i ≡ 0)) ⊎ (LabelBreaks o levels job label c i (rule_at o levels job label c i) × (rule_at o levels job label c i ≢ 0))
+  label_judged : (LabelKept o levels job label c i × (rule_at o levels job label c i ≡ 0)) ⊎ (LabelBreaks o levels job label c i (rule_at o levels job label c i) × (rule_at o levels job label c i ≢ 0))
   unfolding b1 b2 b3
   label_judged =
       let d1 = decides_fits c i in
@@ -134,16 +134,16 @@ module _ (o : Order) (job : ProgramWithClaims) (label : ℕ) (c : Claimed) where
   no_branch : (i : Instruction) → ((m j : ℕ) → i ≡ GotoF m j → ⊥) → BranchKept o job label c i
   no_branch i h = record { avoids = λ m j e r. h m j e; raised = λ m j inside e r w. absurd (h m j e) }
 
-  pub branch_judged : (few : exit job ≤ 128) (i : Instruction) → BranchJudged o job label c i
-  branch_judged few (Load v) = inl (no_branch (Load v) (λ m j e. let no : ◌≡◌ {A = ℕ} 0 1 = cc in omega arith), refl)
-  branch_judged few (Store v) = inl (no_branch (Store v) (λ m j e. let no : ◌≡◌ {A = ℕ} 0 1 = cc in omega arith), refl)
-  branch_judged few (Push x) = inl (no_branch (Push x) (λ m j e. let no : ◌≡◌ {A = ℕ} 0 1 = cc in omega arith), refl)
-  branch_judged few Add = inl (no_branch Add (λ m j e. let no : ◌≡◌ {A = ℕ} 0 1 = cc in omega arith), refl)
-  branch_judged few Sub = inl (no_branch Sub (λ m j e. let no : ◌≡◌ {A = ℕ} 0 1 = cc in omega arith), refl)
-  branch_judged few Eq = inl (no_branch Eq (λ m j e. let no : ◌≡◌ {A = ℕ} 0 1 = cc in omega arith), refl)
-  branch_judged few Less = inl (no_branch Less (λ m j e. let no : ◌≡◌ {A = ℕ} 0 1 = cc in omega arith), refl)
-  branch_judged few Not = inl (no_branch Not (λ m j e. let no : ◌≡◌ {A = ℕ} 0 1 = cc in omega arith), refl)
-  branch_judged few (Goto t) = inl (no_branch (Goto t) (λ m j e. let no : ◌≡◌ {A = ℕ} 0 1 = cc in omega arith), refl)
+  branch_judged : (few : exit job ≤ 128) (i : Instruction) → BranchJudged o job label c i
+  branch_judged few (Load v) = inl (no_branch (Load v) (λ m j e. cc), refl)
+  branch_judged few (Store v) = inl (no_branch (Store v) (λ m j e. cc), refl)
+  branch_judged few (Push x) = inl (no_branch (Push x) (λ m j e. cc), refl)
+  branch_judged few Add = inl (no_branch Add (λ m j e. cc), refl)
+  branch_judged few Sub = inl (no_branch Sub (λ m j e. cc), refl)
+  branch_judged few Eq = inl (no_branch Eq (λ m j e. cc), refl)
+  branch_judged few Less = inl (no_branch Less (λ m j e. cc), refl)
+  branch_judged few Not = inl (no_branch Not (λ m j e. cc), refl)
+  branch_judged few (Goto t) = inl (no_branch (Goto t) (λ m j e. cc), refl)
   branch_judged few (GotoF t j) =
       let table = region job.code j label in
       let in_exit = get_or table (exit job) false in
@@ -193,7 +193,7 @@ says_not : (bytes : List ℕ) (s : Sizes) (label : ℕ) → instruction_rule byt
 says_not bytes s label ne = by (instruction_at bytes s label) refl
   where
     by : (oi : Option Instruction) → instruction_at bytes s label ≡ oi → (Says bytes s label → ⊥) × (instruction_rule bytes s label ≡ 8)
-    by None e = (λ k. let no : ◌≡◌ {A = Option Instruction} None (Some k.instruction) = sym e ∙ k.read in let z : ◌≡◌ {A = ℕ} 0 1 = cc in omega arith, ap unlike_instruction e)
+    by None e = (λ k. cc, ap unlike_instruction e)
     by (Some i) e = absurd (ne (ap unlike_instruction e))
 
 like : (o : Order) (bytes : List ℕ) (s : Sizes) (label : ℕ) → claim_rule o bytes s label ≡ 0 → LikeAClaim o bytes s label
@@ -222,10 +222,10 @@ sized_few : (n d rest : ℕ) (s : Sizes) → sized n d rest ≡ Ok s → s.instr
 sized_few n d rest s e = grind (arith, nat_tests)
 
 opened_few : (bytes : List ℕ) (s : Sizes) → opening bytes ≡ Ok s → s.instructions ≤ 128
-opened_few [] s e = let no : ◌≡◌ {A = ℕ} 0 1 = cc in absurd (omega arith)
-opened_few (a ∷ []) s e = let no : ◌≡◌ {A = ℕ} 0 1 = cc in absurd (omega arith)
-opened_few (a ∷ b ∷ []) s e = let no : ◌≡◌ {A = ℕ} 0 1 = cc in absurd (omega arith)
-opened_few (a ∷ b ∷ c ∷ []) s e = let no : ◌≡◌ {A = ℕ} 0 1 = cc in absurd (omega arith)
+opened_few [] s e = cc
+opened_few (a ∷ []) s e = cc
+opened_few (a ∷ b ∷ []) s e = cc
+opened_few (a ∷ b ∷ c ∷ []) s e = cc
 opened_few (n0 ∷ n1 ∷ d0 ∷ d1 ∷ rest) s e = sized_few (n0 + n1 * 256) (d0 + d1 * 256) (length rest) s e
 
 -- What comes first of two.
@@ -371,10 +371,7 @@ module _ (o : Order) (levels bytes : List ℕ) where
 
   -- a job that can be mounted breaks no rule
   not_both : {number label : ℕ} → FirstBroken o levels bytes number label → Mountable o levels bytes → ⊥
-  not_both (unopened {fault = fault} e) m =
-      let clash : ◌≡◌ {A = Result Sizes ReadFault} (Err fault) (Ok m.sizes) = sym e ∙ m.decodes.opened in
-      let z : ◌≡◌ {A = ℕ} 0 1 = cc in
-      omega arith
+  not_both (unopened e) m = cc
   not_both (instruction {s = s} {label = label} e within before broken) m =
       broken (subst (λ t. Below t.instructions (Says bytes t)) (sym (same_sizes s m.sizes e m.decodes.opened)) m.decodes.instructions label within)
   not_both (claim {s = s} {label = label} e all within before broken) m =

@@ -13,7 +13,7 @@ use Rattle.job.specs.Records.{Claimed}
 use Rattle.checker.specs.Leaving.{pushed, leaves, fits_under, all_fit_under}
 
 -- A place is pushed where the language's table says that a kind is.
-pub pushed_as_listed : (o : Order) (levels : List ℕ) (c : Claimed) (i : Instruction) → length (optional (pushed o levels c i)) ≡ length (optional (pushes i))
+pushed_as_listed : (o : Order) (levels : List ℕ) (c : Claimed) (i : Instruction) → length (optional (pushed o levels c i)) ≡ length (optional (pushes i))
 pushed_as_listed o levels c (Load v) = refl
 pushed_as_listed o levels c (Store v) = refl
 pushed_as_listed o levels c (Push x) = refl
@@ -39,10 +39,10 @@ rest_at f k i xs d h =
 
 pub below_none : (p : Option Place) (f : Place → Place) (k i : ℕ) (xs : List Place) (d : Place) → p ≡ None → i < length (optional p ++ map f (drop k xs)) → get_or (optional p ++ map f (drop k xs)) i d ≡ f (get_or xs (i + k) d)
 below_none None f k i xs d e h = rest_at f k i xs d h
-below_none (Some q) f k i xs d e h = let no : ◌≡◌ {A = ℕ} 0 1 = cc in absurd (omega arith)
+below_none (Some q) f k i xs d e h = cc
 
 pub below_pushed : (p : Option Place) (q : Place) (f : Place → Place) (k i : ℕ) (xs : List Place) (d : Place) → p ≡ Some q → 0 < i → i < length (optional p ++ map f (drop k xs)) → get_or (optional p ++ map f (drop k xs)) i d ≡ f (get_or xs (i - 1 + k) d)
-below_pushed None q f k i xs d e some h = let no : ◌≡◌ {A = ℕ} 0 1 = cc in absurd (omega arith)
+below_pushed None q f k i xs d e some h = cc
 below_pushed (Some r) q f k zero xs d e some h = absurd (omega arith)
 below_pushed (Some r) q f k (suc i) xs d e some h = rest_at f k i xs d (omega arith) ∙ ap (λ m. f (get_or xs m d)) (omega arith)
 

@@ -1,7 +1,9 @@
 -- The table of marks holds exactly the region, the least set. Assumes nothing.
 use Rattle.std.proofs.Common.{◌≡◌, ℕ, zero, suc, ◌+◌, ◌<◌, ◌≤◌, Bool, true, false, cond, eqb, ◌≢◌, ◌⊎◌, List, [], ◌∷◌, length, get_or, set, replicate, sym, refl, ap, ◌∙◌, subst, inl, inr, ⊎_elim, arith}
 use native.Mathlib.Decide.{le_ind}
-use Rattle.std.proofs.lemmas.List.{get_or-set_same, length-set}
+use Rattle.std.proofs.lemmas.List.{get_or-set_same, get_or_past, length-set, length-replicate, get_or-replicate}
+use Rattle.std.specs.List.{count_by}
+use Rattle.std.proofs.lemmas.List.Sums.{sum_by-cons, count_by-le-length}
 use Rattle.std.proofs.lemmas.Bool.{cases_lt, cond_both, ne_eqb, eqb-false, false≢true}
 use Rattle.push.specs.declared.instruction.Instruction.{Instruction}
 use Rattle.std.proofs.lemmas.Option.{slice_get_past}
@@ -26,9 +28,9 @@ set_only (b ∷ m) (suc x) zero h = inr h
 set_only (b ∷ m) (suc x) (suc l) h = ⊎_elim (λ (e : l ≡ x). inl (ap suc e)) (λ (k : Marked m l). inr k) (set_only m x l h)
 
 -- Marks that another table keeps.
-pub record Kept (m m' : List Bool) : Type 0 where
-  pub long : length m ≡ length m'
-  pub marks : (l : ℕ) → Marked m l → Marked m' l
+record Kept (m m' : List Bool) : Type 0 where
+  long : length m ≡ length m'
+  marks : (l : ℕ) → Marked m l → Marked m' l
 
 kept_self : (m : List Bool) → Kept m m
 kept_self m = record { long = refl; marks = λ l h. h }
@@ -121,29 +123,24 @@ module _ (code : List Instruction) (j branch : ℕ) where
       (later_keeps (suc from) (length code) m within).marks label here_now
 
 -- How many are marked.
-count : List Bool → ℕ
-count [] = 0
-count (b ∷ m) = cond b 1 0 + count m
+abbrev count : List Bool → ℕ
+count m = count_by (λ b. b) m
 
-count_few : (m : List Bool) → count m ≤ length m
-unfolding count
-count_few [] = omega arith
-count_few (true ∷ m) = omega (arith, count_few m)
-count_few (false ∷ m) = omega (arith, count_few m)
+count_more : (b : Bool) (m : List Bool) → count (b ∷ m) ≡ cond b 1 0 + count m
+count_more b m = sum_by-cons (λ x. cond x 1 0) b m
 
 -- A table that keeps another's marks is the same, or has more.
 same_or_more : (m m' : List Bool) → Kept m m' → (m' ≡ m) ⊎ (count m < count m')
-unfolding count
 same_or_more [] [] k = inl refl
 same_or_more [] (b ∷ m') k = absurd (omega (arith, k.long))
 same_or_more (b ∷ m) [] k = absurd (omega (arith, k.long))
 same_or_more (true ∷ m) (true ∷ m') k =
-    ⊎_elim (λ (e : m' ≡ m). inl (ap (λ r. true ∷ r) e)) (λ (h : count m < count m'). inr (omega arith)) (same_or_more m m' (record { long = omega (arith, k.long); marks = λ l. k.marks (suc l) }))
+    ⊎_elim (λ (e : m' ≡ m). inl (ap (λ r. true ∷ r) e)) (λ (h : count m < count m'). inr (omega (arith, count_more true m, count_more true m'))) (same_or_more m m' (record { long = omega (arith, k.long); marks = λ l. k.marks (suc l) }))
 same_or_more (true ∷ m) (false ∷ m') k = absurd (false≢true (k.marks 0 refl))
 same_or_more (false ∷ m) (true ∷ m') k =
-    ⊎_elim (λ (e : m' ≡ m). inr (omega (arith, ap count e))) (λ (h : count m < count m'). inr (omega arith)) (same_or_more m m' (record { long = omega (arith, k.long); marks = λ l. k.marks (suc l) }))
+    ⊎_elim (λ (e : m' ≡ m). inr (omega (arith, count_more true m', ap count e))) (λ (h : count m < count m'). inr (omega (arith, count_more true m'))) (same_or_more m m' (record { long = omega (arith, k.long); marks = λ l. k.marks (suc l) }))
 same_or_more (false ∷ m) (false ∷ m') k =
-    ⊎_elim (λ (e : m' ≡ m). inl (ap (λ r. false ∷ r) e)) (λ (h : count m < count m'). inr (omega arith)) (same_or_more m m' (record { long = omega (arith, k.long); marks = λ l. k.marks (suc l) }))
+    ⊎_elim (λ (e : m' ≡ m). inl (ap (λ r. false ∷ r) e)) (λ (h : count m < count m'). inr h) (same_or_more m m' (record { long = omega (arith, k.long); marks = λ l. k.marks (suc l) }))
 
 module _ (code : List Instruction) (j : ℕ) (m : List Bool) where
   abbrev after : ℕ → List Bool
@@ -170,7 +167,7 @@ module _ (code : List Instruction) (j : ℕ) (m : List Bool) where
 
   at_rest : (k : ℕ) → length m < k → after (suc k) ≡ after k
   at_rest k h =
-      ⊎_elim (λ (e : after (suc k) ≡ after k). e) (λ (c : k ≤ count (after k)). absurd (omega (arith, count_few (after k), (times_keeps k).long))) (at_rest_or_many k)
+      ⊎_elim (λ (e : after (suc k) ≡ after k). e) (λ (c : k ≤ count (after k)). absurd (omega (arith, count_by-le-length (λ b. b) (after k), (times_keeps k).long))) (at_rest_or_many k)
 
 pub nothing : (l : ℕ) → Among l [] → ⊥
 nothing l a = elim a [ ]
@@ -180,17 +177,11 @@ module _ (code : List Instruction) (j branch : ℕ) where
   start = mark_all j (next_labels code branch) (replicate 129 false)
 
   none_marked : (n l : ℕ) → Marked (replicate n false) l → ⊥
-  none_marked zero l h = false≢true h
-  none_marked (suc n) zero h = false≢true h
-  none_marked (suc n) (suc l) h = none_marked n l h
-
-  length_none : (n : ℕ) → length (replicate n false) ≡ n
-  length_none zero = refl
-  length_none (suc n) = ap suc (length_none n)
+  none_marked n l h = grind (arith, get_or-replicate, get_or_past, length-replicate)
 
   start_long : length start ≡ 129
   unfolding start
-  start_long = sym (all_keeps j (next_labels code branch) (replicate 129 false)).long ∙ length_none 129
+  start_long = sym (all_keeps j (next_labels code branch) (replicate 129 false)).long ∙ length-replicate 129 false
 
   -- every mark of the table is in the region
   pub marks_are_region : (l : ℕ) → Marked (region code j branch) l → Region code j branch l
@@ -207,7 +198,7 @@ module _ (code : List Instruction) (j branch : ℕ) where
   pub region_is_marked : {l : ℕ} → length code ≤ 128 → l ≤ 128 → Region code j branch l → Marked (region code j branch) l
   unfolding start spread_times
   region_is_marked {l} few small (enter a ne) =
-      (times_keeps code j start 130).marks l (all_marks j (replicate 129 false) a ne (omega (arith, length_none 129)))
+      (times_keeps code j start 130).marks l (all_marks j (replicate 129 false) a ne (omega (arith, length-replicate 129 false)))
   region_is_marked {l} few small (onward {from = from} r a ne) =
       let within : from < length code = some_after from l a in
       let was : Marked (region code j branch) from = region_is_marked few (omega arith) r in

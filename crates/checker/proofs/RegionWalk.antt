@@ -4,6 +4,7 @@ use Rattle.std.proofs.Common.{◌≡◌, ℕ, ◌+◌, ◌<◌, ◌≤◌, Bool,
 use Rattle.std.proofs.lemmas.Bool.{eqb-true, eqb-false}
 use Rattle.std.proofs.lemmas.List.{set-get_or}
 use Rattle.lattice.specs.Order.{Order, Laws}
+use Rattle.lattice.specs.Levels.{join_level}
 use Rattle.push.specs.declared.instruction.Instruction.{Instruction}
 use Rattle.push.specs.declared.instruction.Instruction.TheVariants.{Add}
 use Rattle.push.specs.declared.value.Value.{Value}
@@ -15,8 +16,7 @@ use Rattle.push.specs.Machine as rule
 use Rattle.push.specs.Machine.{Machine, at, ◌⊢◌⟶◌, step}
 use Rattle.push.specs.Run as steps
 use Rattle.push.specs.Run.{Steps, label_of}
-use Rattle.std.proofs.lemmas.Option.{slice_get-get_or}
-use Rattle.std.proofs.lemmas.Option.{same_Some}
+use Rattle.std.proofs.lemmas.Option.{slice_get-get_or, same_Some}
 use Rattle.job.specs.declared.claim.Place.{Place}
 use Rattle.job.specs.Records.{Claimed, level}
 use Rattle.checker.specs.Rules.{ProgramWithClaims, exit}
@@ -26,7 +26,7 @@ use Rattle.checker.proofs.SoundFacts as sound
 use Rattle.checker.proofs.SoundFacts.{Levels}
 use Rattle.checker.proofs.Leaves as leaving
 use Rattle.checker.proofs.Leaves.{Leaves}
-use Rattle.checker.proofs.Agreeing.{Agree, same_int, same_flag, agree_under, low_right, join_level}
+use Rattle.checker.proofs.Agreeing.{Agree, same_int, same_flag, agree_under, low_right}
 use Rattle.checker.specs.Flow.{SameWhenOpen, LevelsOfVariables}
 use Rattle.checker.proofs.OpenFacts.{same_here, same_then, written}
 use Rattle.checker.proofs.Typing.{Fits, fits_int, fits_flag, fits_length, fits_under, either, rule_within, one_way, Accepted, at_label}
@@ -47,7 +47,7 @@ module _ (o : Order) (w : ℕ) where
   end_pop (kept (boolean h u)) = under (kept u)
   end_pop (under e) = under (end_pop e)
 
-  pub keeps_pop : {p : Place} {x : Value} {ps qs : List Place} {s t : List Value} → Keeps ps s (p ∷ qs) (x ∷ t) → Keeps ps s qs t
+  keeps_pop : {p : Place} {x : Value} {ps qs : List Place} {s t : List Value} → Keeps ps s (p ∷ qs) (x ∷ t) → Keeps ps s qs t
   keeps_pop (low e) = low (end_pop e)
   keeps_pop (above h k) = k
 
@@ -70,7 +70,7 @@ module _ (o : Order) (w : ℕ) where
     end_under v (kept u) = kept (under_then u v)
     end_under v (under e) = under (end_under v e)
 
-    pub keeps_under : {ps qs rs : List Place} {s t : List Value} → Under o qs rs → Keeps ps s qs t → Keeps ps s rs t
+    keeps_under : {ps qs rs : List Place} {s t : List Value} → Under o qs rs → Keeps ps s qs t → Keeps ps s rs t
     keeps_under v (low e) = low (end_under v e)
     keeps_under (integer {a = a} {b = b} h v) (above high k) = above (λ l. high (laws.transitive a b w h l)) (keeps_under v k)
     keeps_under (boolean {a = a} {b = b} h v) (above high k) = above (λ l. high (laws.transitive a b w h l)) (keeps_under v k)
@@ -92,15 +92,15 @@ module _ (o : Order) (w : ℕ) where
 
     module _ (levels : List ℕ) (graded : LevelsOfVariables o levels) (code : List Instruction) (p l : ℕ) (hp : p < o.span) (closed : o.at_most p w ≡ true → ⊥) where
       -- One step at a label that is surrounded by a closed level.
-      pub record Hidden (i : Instruction) (ps : List Place) (s : List Value) (qs : List Place) (t : List Value) (vs : List ℤ) : Type 0 where
-        pub next : ℕ
-        pub stack : List Value
-        pub values : List ℤ
-        pub by_rule : code ⊢ at l t vs ⟶ at next stack values
-        pub among : Among next (successors i l)
-        pub fits : Fits qs stack
-        pub keeps : Keeps ps s qs stack
-        pub unchanged : SameWhenOpen o levels w vs values
+      record Hidden (i : Instruction) (ps : List Place) (s : List Value) (qs : List Place) (t : List Value) (vs : List ℤ) : Type 0 where
+        next : ℕ
+        stack : List Value
+        values : List ℤ
+        by_rule : code ⊢ at l t vs ⟶ at next stack values
+        among : Among next (successors i l)
+        fits : Fits qs stack
+        keeps : Keeps ps s qs stack
+        unchanged : SameWhenOpen o levels w vs values
 
       closed_join : (a : ℕ) → a < o.span → o.at_most (o.join a p) w ≡ true → ⊥
       closed_join a ha h = closed (low_right o w laws a p ha hp h)
@@ -110,7 +110,7 @@ module _ (o : Order) (w : ℕ) where
           let high : o.at_most (get_or levels v 0) w ≡ true → get_or vs v (pos 0) ≡ x = λ seen. absurd (closed_join a ha (laws.transitive (o.join a p) (get_or levels v 0) w up seen)) in
           subst (λ us. SameWhenOpen o levels w us (set vs v x)) (set-get_or vs v (pos 0)) (written v (get_or vs v (pos 0)) x vs vs small high (same_here vs sized))
 
-      pub hidden_step : {i : Instruction} {ps qs rs : List Place} {s t : List Value} → fetch code l ≡ Some i → Leaves o levels p i qs rs → Levels o qs → (vs : List ℤ) → length vs ≡ 32 → Fits qs t → Keeps ps s qs t → Hidden i ps s rs t vs
+      hidden_step : {i : Instruction} {ps qs rs : List Place} {s t : List Value} → fetch code l ≡ Some i → Leaves o levels p i qs rs → Levels o qs → (vs : List ℤ) → length vs ≡ 32 → Fits qs t → Keeps ps s qs t → Hidden i ps s rs t vs
       hidden_step {t = t} at_l (leaving.load {v = v} small room) ls vs sized f k =
           record { next = l + 1; stack = Int (get_or vs v (pos 0)) ∷ t; values = vs; by_rule = rule.load at_l small (omega (arith, fits_length f)); among = here; fits = fits_int f; keeps = above (closed_join (get_or levels v 0) (graded v small)) k; unchanged = same_here vs sized }
       hidden_step at_l (leaving.store {v = v} {a = a} small up) (sound.more ha ls) vs sized (fits_int {x = x} {s = t} f) k =
@@ -118,13 +118,13 @@ module _ (o : Order) (w : ℕ) where
       hidden_step {t = t} at_l (leaving.push {x = x} room) ls vs sized f k =
           record { next = l + 1; stack = Int x ∷ t; values = vs; by_rule = rule.push at_l (omega (arith, fits_length f)); among = here; fits = fits_int f; keeps = above closed k; unchanged = same_here vs sized }
       hidden_step at_l (leaving.add {a = a} {b = b}) (sound.more ha (sound.more hb ls)) vs sized (fits_int {x = x} (fits_int {x = u} {s = t} f)) k =
-          record { next = l + 1; stack = Int (sum u x) ∷ t; values = vs; by_rule = rule.add at_l; among = here; fits = fits_int f; keeps = above (closed_join (o.join a b) (join_level o w laws a b ha hb)) (keeps_pop (keeps_pop k)); unchanged = same_here vs sized }
+          record { next = l + 1; stack = Int (sum u x) ∷ t; values = vs; by_rule = rule.add at_l; among = here; fits = fits_int f; keeps = above (closed_join (o.join a b) (join_level o laws a b ha hb)) (keeps_pop (keeps_pop k)); unchanged = same_here vs sized }
       hidden_step at_l (leaving.sub {a = a} {b = b}) (sound.more ha (sound.more hb ls)) vs sized (fits_int {x = x} (fits_int {x = u} {s = t} f)) k =
-          record { next = l + 1; stack = Int (difference u x) ∷ t; values = vs; by_rule = rule.sub at_l; among = here; fits = fits_int f; keeps = above (closed_join (o.join a b) (join_level o w laws a b ha hb)) (keeps_pop (keeps_pop k)); unchanged = same_here vs sized }
+          record { next = l + 1; stack = Int (difference u x) ∷ t; values = vs; by_rule = rule.sub at_l; among = here; fits = fits_int f; keeps = above (closed_join (o.join a b) (join_level o laws a b ha hb)) (keeps_pop (keeps_pop k)); unchanged = same_here vs sized }
       hidden_step at_l (leaving.eq {a = a} {b = b}) (sound.more ha (sound.more hb ls)) vs sized (fits_int {x = x} (fits_int {x = u} {s = t} f)) k =
-          record { next = l + 1; stack = Flag (same u x) ∷ t; values = vs; by_rule = rule.eq at_l; among = here; fits = fits_flag f; keeps = above (closed_join (o.join a b) (join_level o w laws a b ha hb)) (keeps_pop (keeps_pop k)); unchanged = same_here vs sized }
+          record { next = l + 1; stack = Flag (same u x) ∷ t; values = vs; by_rule = rule.eq at_l; among = here; fits = fits_flag f; keeps = above (closed_join (o.join a b) (join_level o laws a b ha hb)) (keeps_pop (keeps_pop k)); unchanged = same_here vs sized }
       hidden_step at_l (leaving.lower {a = a} {b = b}) (sound.more ha (sound.more hb ls)) vs sized (fits_int {x = x} (fits_int {x = u} {s = t} f)) k =
-          record { next = l + 1; stack = Flag (less u x) ∷ t; values = vs; by_rule = rule.lower at_l; among = here; fits = fits_flag f; keeps = above (closed_join (o.join a b) (join_level o w laws a b ha hb)) (keeps_pop (keeps_pop k)); unchanged = same_here vs sized }
+          record { next = l + 1; stack = Flag (less u x) ∷ t; values = vs; by_rule = rule.lower at_l; among = here; fits = fits_flag f; keeps = above (closed_join (o.join a b) (join_level o laws a b ha hb)) (keeps_pop (keeps_pop k)); unchanged = same_here vs sized }
       hidden_step at_l (leaving.turn {a = a}) (sound.more ha ls) vs sized (fits_flag {b = b} {s = t} f) k =
           record { next = l + 1; stack = Flag (not b) ∷ t; values = vs; by_rule = rule.turn at_l; among = here; fits = fits_flag f; keeps = above (closed_join a ha) (keeps_pop k); unchanged = same_here vs sized }
       hidden_step {t = t} at_l (leaving.goto {m = m}) ls vs sized f k =

@@ -79,7 +79,7 @@ module _ (exit : ℕ) where
   record_sound (_ ∷ _ ∷ _ ∷ _ ∷ _ ∷ _ ∷ _ ∷ _) = tt
 
   all_fetched : (is : List Instruction) → All (Sound exit) is → (label : ℕ) (i : Instruction) → fetch is label ≡ Some i → Sound exit i
-  all_fetched [] h label i e = let no : ◌≡◌ {A = ℕ} 0 1 = cc in absurd (omega arith)
+  all_fetched [] h label i e = cc
   all_fetched (x ∷ is) h zero i e = let same : x ≡ i = cc in subst (Sound exit) same h.0
   all_fetched (x ∷ is) h (suc label) i e = all_fetched is h.1 label i e
 
@@ -100,7 +100,7 @@ either_level false l = refl
 
 -- A label that claims passed the test of a claim, not that of an empty record.
 claimed_when : (unclaimed empty like : Bool) (x c : Claimed) → cond unclaimed empty like ≡ true → cond unclaimed None (Some x) ≡ Some c → (like ≡ true) × (x ≡ c)
-claimed_when true empty like x c h e = let no : ◌≡◌ {A = ℕ} 0 1 = cc in absurd (omega arith)
+claimed_when true empty like x c h e = cc
 claimed_when false empty like x c h e = (h, cc)
 
 module _ (o : Order) (bytes : List ℕ) where

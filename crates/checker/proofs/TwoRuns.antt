@@ -1,7 +1,7 @@
 -- Two halted runs of an accepted job from values that agree on what is open end in such values. Assumes the laws of the
 -- order.
 use Rattle.std.proofs.Common.{◌≡◌, ℕ, zero, suc, ◌+◌, ◌<◌, ◌≤◌, Bool, true, false, cond, eqb, ◌⊎◌, List, [], ◌∷◌, length, get_or, ℤ, Some, sym, refl, ap, ◌∙◌, subst, inl, inr, ⊎_elim, arith}
-use Rattle.std.proofs.lemmas.Bool.{eqb-true, eqb-false}
+use Rattle.std.proofs.lemmas.Bool.{cases_lt, eqb-true, eqb-false}
 use Rattle.lattice.specs.Order.{Order, Laws}
 use Rattle.push.specs.declared.instruction.Instruction.{Instruction}
 use Rattle.push.specs.declared.instruction.Instruction.TheVariants.{Add, GotoF}
@@ -13,8 +13,7 @@ use Rattle.push.specs.Machine as rule
 use Rattle.push.specs.Machine.{Machine, at, ◌⊢◌⟶◌}
 use Rattle.push.specs.Run as steps
 use Rattle.push.specs.Run.{Steps, label_of, values_of}
-use Rattle.std.proofs.lemmas.Option.{slice_get-get_or}
-use Rattle.std.proofs.lemmas.Option.{same_Some}
+use Rattle.std.proofs.lemmas.Option.{slice_get-get_or, same_Some}
 use Rattle.job.specs.declared.claim.Place.{Place}
 use Rattle.job.specs.declared.claim.Place.TheVariants.{IntegerAt, BooleanAt}
 use Rattle.job.specs.Records.{Claimed, level}
@@ -27,7 +26,7 @@ use Rattle.checker.proofs.Agreeing.{Agree, same_none, left_fits, right_fits, agr
 use Rattle.checker.proofs.RegionWalk.{kept, Keeps, low, meet, AtJunction, junction_exit, junction_claim, reach}
 use Rattle.checker.specs.Flow.{SameWhenOpen, LevelsOfVariables, KeepsClosed}
 use Rattle.checker.proofs.OpenFacts.{same_then, same_back}
-use Rattle.checker.proofs.Typing.{Fits, either, below_or_not, rule_within, one_way, Accepted, at_label}
+use Rattle.checker.proofs.Typing.{Fits, either, rule_within, one_way, Accepted, at_label}
 
 module _ (o : Order) (laws : Laws o) (w : ℕ) (levels : List ℕ) (graded : LevelsOfVariables o levels) (job : ProgramWithClaims) (acc : Accepted o levels job) where
   -- Two runs at one label whose stacks agree by its claim, or at the exit.
@@ -136,7 +135,7 @@ module _ (o : Order) (laws : Laws o) (w : ℕ) (levels : List ℕ) (graded : Lev
       (together o w laws levels graded job.code c.surrounding l leveled.0 at_l label.left leveled.1 agree open_same)
 
   starts : PairAt 0 [] []
-  starts = ⊎_elim (λ e. pair_exit (sym e)) (λ first. by first.0 first.1 first.2 (below_or_not 0 (exit job))) acc.well.entry
+  starts = ⊎_elim (λ e. pair_exit (sym e)) (λ first. by first.0 first.1 first.2 (cases_lt 0 (exit job))) acc.well.entry
     where
       by : (c : Claimed) → job.claim 0 ≡ Some c → c.stack ≡ [] → (0 < exit job) ⊎ (exit job ≤ 0) → PairAt 0 [] []
       by c has empty (inl some) = pair_claim (λ e. absurd (omega arith)) has (subst (λ ps. Agree o w ps [] []) (sym empty) same_none)

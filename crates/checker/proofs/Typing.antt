@@ -1,7 +1,7 @@
 -- At a claimed label the stack has the claim's depth and kinds, and a step keeps this; so no run of an accepted job
 -- faults. Assumes the laws of the order.
-use Rattle.std.proofs.Common.{◌≡◌, ℕ, ◌+◌, ◌<◌, ◌≤◌, Bool, true, false, cond, not, ltb, ◌⊎◌, List, [], ◌∷◌, length, get_or, set, ℤ, pos, Some, sym, refl, ap, ◌∙◌, subst, inl, inr, ⊎_elim, arith}
-use Rattle.std.proofs.lemmas.Bool.{ltb-true, ltb-false}
+use Rattle.std.proofs.Common.{◌≡◌, ℕ, ◌+◌, ◌<◌, ◌≤◌, Bool, true, false, cond, not, ◌⊎◌, List, [], ◌∷◌, length, get_or, set, ℤ, pos, Some, sym, refl, ap, ◌∙◌, subst, inl, inr, ⊎_elim, arith}
+use Rattle.std.proofs.lemmas.Bool.{cases_lt}
 use Rattle.lattice.specs.Order.{Order, Laws}
 use Rattle.push.specs.declared.instruction.Instruction.{Instruction}
 use Rattle.push.specs.declared.instruction.Instruction.TheVariants.{Load, Store, Push, Add, Sub, Eq, Less, Not, Goto, GotoF}
@@ -14,8 +14,7 @@ use Rattle.push.specs.Machine as rule
 use Rattle.push.specs.Machine.{Machine, at, ◌⊢◌⟶◌, perform, step}
 use Rattle.push.specs.Run as steps
 use Rattle.push.specs.Run.{Steps, label_of}
-use Rattle.std.proofs.lemmas.Option.{slice_get-get_or, slice_get_past}
-use Rattle.std.proofs.lemmas.Option.{none-some, same_Some}
+use Rattle.std.proofs.lemmas.Option.{slice_get-get_or, slice_get_past, none-some, same_Some}
 use Rattle.push.proofs.StepFacts.{rule_steps}
 use Rattle.job.specs.declared.claim.Place.{Place}
 use Rattle.job.specs.declared.claim.Place.TheVariants.{IntegerAt, BooleanAt}
@@ -29,17 +28,10 @@ use Rattle.checker.proofs.SoundFacts.{Sound, Levels}
 use Rattle.checker.proofs.Leaves as leaving
 use Rattle.checker.proofs.Leaves.{Leaves, kept_leaves}
 
-pub below_or_not : (a b : ℕ) → (a < b) ⊎ (b ≤ a)
-below_or_not a b = by (ltb a b) refl
-  where
-    by : (t : Bool) → ltb a b ≡ t → (a < b) ⊎ (b ≤ a)
-    by true e = inl (ltb-true a b e)
-    by false e = inr (ltb-false a b e)
-
 -- The rules apply only below the exit, and leave only one way.
 module _ (code : List Instruction) where
   pub rule_within : (l : ℕ) (s : List Value) (vs : List ℤ) (n : Machine) → code ⊢ at l s vs ⟶ n → l < length code
-  rule_within l s vs n r = ⊎_elim (λ h. h) (λ h. absurd (none-some n (sym (ap (λ i. perform i l s vs) (slice_get_past code l h)) ∙ rule_steps code r))) (below_or_not l (length code))
+  rule_within l s vs n r = ⊎_elim (λ h. h) (λ h. absurd (none-some n (sym (ap (λ i. perform i l s vs) (slice_get_past code l h)) ∙ rule_steps code r))) (cases_lt l (length code))
 
   pub one_way : (m n o : Machine) → code ⊢ m ⟶ n → code ⊢ m ⟶ o → n ≡ o
   one_way m n o r q = same_Some _ _ (sym (rule_steps code r) ∙ rule_steps code q)
@@ -61,20 +53,20 @@ fits_under (integer h u) (fits_int f) = fits_int (fits_under u f)
 fits_under (boolean h u) (fits_flag f) = fits_flag (fits_under u f)
 
 -- One step from a label: by a rule, to a successor, with a stack that fits what leaves.
-pub record Goes (code : List Instruction) (i : Instruction) (l : ℕ) (s : List Value) (vs : List ℤ) (qs : List Place) : Type 0 where
-  pub next : ℕ
-  pub stack : List Value
-  pub values : List ℤ
-  pub by_rule : code ⊢ at l s vs ⟶ at next stack values
-  pub among : Among next (successors i l)
-  pub fits : Fits qs stack
+record Goes (code : List Instruction) (i : Instruction) (l : ℕ) (s : List Value) (vs : List ℤ) (qs : List Place) : Type 0 where
+  next : ℕ
+  stack : List Value
+  values : List ℤ
+  by_rule : code ⊢ at l s vs ⟶ at next stack values
+  among : Among next (successors i l)
+  fits : Fits qs stack
 
 pub either : (l m : ℕ) (b : Bool) → Among (cond b (l + 1) m) ((l + 1) ∷ m ∷ [])
 either l m true = here
 either l m false = there here
 
 module _ (o : Order) (levels : List ℕ) (code : List Instruction) (p l : ℕ) where
-  pub goes : {i : Instruction} {ps qs : List Place} → fetch code l ≡ Some i → Leaves o levels p i ps qs → {s : List Value} (vs : List ℤ) → Fits ps s → Goes code i l s vs qs
+  goes : {i : Instruction} {ps qs : List Place} → fetch code l ≡ Some i → Leaves o levels p i ps qs → {s : List Value} (vs : List ℤ) → Fits ps s → Goes code i l s vs qs
   goes at_l (leaving.load {v = v} {ps = ps} small room) {s} vs f = record { next = l + 1; stack = Int (get_or vs v (pos 0)) ∷ s; values = vs; by_rule = rule.load at_l small (omega (arith, fits_length f)); among = here; fits = fits_int f }
   goes at_l (leaving.store {v = v} small up) vs (fits_int {x = t} {s = s} f) = record { next = l + 1; stack = s; values = set vs v t; by_rule = rule.store at_l small; among = here; fits = f }
   goes at_l (leaving.push {x = x} room) {s} vs f = record { next = l + 1; stack = Int x ∷ s; values = vs; by_rule = rule.push at_l (omega (arith, fits_length f)); among = here; fits = fits_int f }
@@ -112,22 +104,16 @@ successors_within n l next (GotoF m j) (sound.branch h) lt (there a) = omega (ar
 module _ (o : Order) (laws : Laws o) (levels : List ℕ) (job : ProgramWithClaims) (acc : Accepted o levels job) where
   -- What a claimed label with an instruction leaves.
   pub record AtLabel (l : ℕ) (c : Claimed) (i : Instruction) : Type 0 where
-    pub below : l < exit job
-    pub claimed : job.claim l ≡ Some c
-    pub fetched : fetch job.code l ≡ Some i
     pub places : List Place
     pub left : Leaves o levels c.surrounding i c.stack places
     pub taken : (next : ℕ) → Among next (successors i l) → Takes o job places next
-    pub within : (next : ℕ) → Among next (successors i l) → next ≤ exit job
+    within : (next : ℕ) → Among next (successors i l) → next ≤ exit job
 
   pub at_label : (l : ℕ) (c : Claimed) (i : Instruction) → l < exit job → job.claim l ≡ Some c → fetch job.code l ≡ Some i → AtLabel l c i
   at_label l c i lt has at_l =
       let kept = acc.well.labels l lt c i has at_l in
       let out = kept_leaves o laws levels job (exit job) c.surrounding c.stack i (acc.sound l i at_l) (acc.leveled l c lt has).1 kept.fits kept.stores in
       record {
-        below = lt;
-        claimed = has;
-        fetched = at_l;
         places = out.places;
         left = out.left;
         taken = λ next a. out.taken next (kept.taken next a);
@@ -135,21 +121,18 @@ module _ (o : Order) (laws : Laws o) (levels : List ℕ) (job : ProgramWithClaim
       }
 
   -- A machine whose stack fits the claim of its label, or that is at the exit.
-  pub data Typed : Machine → Type 0 where
+  data Typed : Machine → Type 0 where
     typed_exit : {l : ℕ} {s : List Value} {vs : List ℤ} → l ≡ exit job → Typed (at l s vs)
     typed_claim : {l : ℕ} {s : List Value} {vs : List ℤ} {c : Claimed} → l < exit job → job.claim l ≡ Some c → Fits c.stack s → Typed (at l s vs)
 
   arrives : {l : ℕ} {s : List Value} {vs : List ℤ} {ps : List Place} → l ≤ exit job → Takes o job ps l → Fits ps s → Typed (at l s vs)
   arrives le (at_exit e empty) f = typed_exit e
-  arrives {l} le (by_claim other has u) f = typed_claim (strictly l (exit job) le other) has (fits_under u f)
-    where
-      strictly : (a b : ℕ) → a ≤ b → (a ≡ b → ⊥) → a < b
-      strictly a b le ne = ⊎_elim (λ h. h) (λ h. absurd (ne (omega arith))) (below_or_not a b)
+  arrives le (by_claim other has u) f = typed_claim (omega (arith, le, other)) has (fits_under u f)
 
   some_instruction : (l : ℕ) → l < exit job → (i : Instruction) × (fetch job.code l ≡ Some i)
   some_instruction l lt = (get_or job.code l Add, slice_get-get_or job.code l Add lt)
 
-  pub typed_goes : (m : Machine) → Typed m → (label_of m ≡ exit job) ⊎ ((n : Machine) × (job.code ⊢ m ⟶ n) × Typed n)
+  typed_goes : (m : Machine) → Typed m → (label_of m ≡ exit job) ⊎ ((n : Machine) × (job.code ⊢ m ⟶ n) × Typed n)
   typed_goes (at l s vs) (typed_exit e) = inl e
   typed_goes (at l s vs) (typed_claim {c = c} lt has f) =
       let some = some_instruction l lt in
@@ -157,7 +140,7 @@ module _ (o : Order) (laws : Laws o) (levels : List ℕ) (job : ProgramWithClaim
       let step = goes o levels job.code c.surrounding l some.1 here.left vs f in
       inr (at step.next step.stack step.values, step.by_rule, arrives (here.within step.next step.among) (here.taken step.next step.among) step.fits)
 
-  pub stays_typed : {k : ℕ} {m n : Machine} → Steps job.code k m n → Typed m → Typed n
+  stays_typed : {k : ℕ} {m n : Machine} → Steps job.code k m n → Typed m → Typed n
   stays_typed steps.none t = t
   stays_typed {m = m} (steps.more {n = n} r rest) t = stays_typed rest (⊎_elim (λ e. absurd (at_the_exit m n r e)) (λ g. subst Typed (one_way job.code m g.0 n g.1 r) g.2) (typed_goes m t))
     where
@@ -165,7 +148,7 @@ module _ (o : Order) (laws : Laws o) (levels : List ℕ) (job : ProgramWithClaim
       at_the_exit (at l s vs) n r e = let lt = rule_within job.code l s vs n r in absurd (omega arith)
 
   starts : (values : List ℤ) → Typed (at 0 [] values)
-  starts values = ⊎_elim (λ e. typed_exit (sym e)) (λ first. by first.0 first.1 first.2 (below_or_not 0 (exit job))) acc.well.entry
+  starts values = ⊎_elim (λ e. typed_exit (sym e)) (λ first. by first.0 first.1 first.2 (cases_lt 0 (exit job))) acc.well.entry
     where
       by : (c : Claimed) → job.claim 0 ≡ Some c → c.stack ≡ [] → (0 < exit job) ⊎ (exit job ≤ 0) → Typed (at 0 [] values)
       by c has empty (inl some) = typed_claim some has (subst (λ ps. Fits ps []) (sym empty) fits_none)
