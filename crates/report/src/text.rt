@@ -1,8 +1,8 @@
-ghost use Rattle.std.specs.Prelude.{◌≡◌, ◌++◌, map, IfOk, string_bytes, OnOk};
+ghost use Rattle.std.specs.Prelude.{◌≡◌, ◌/◌, ◌++◌, length, map, IfOk, string_bytes, OnOk};
 ghost use Rattle.checker.specs.Faults.{mount_answer};
 ghost use Rattle.controller.specs.Of.{answer_of};
 ghost use Rattle.report.specs.Of.{Tells};
-ghost use Rattle.report.specs.Report.{bad_input as bad_input_text, rows, sheet_text, mount_line, answer_lines, is_refused as is_refused_of, answers_text as answers_text_of};
+ghost use Rattle.report.specs.Report.{bad_input as bad_input_text, sheet_text, mount_line, answer_lines, is_refused as is_refused_of, answers_text as answers_text_of};
 
 use crate::no_report::NoReport;
 use checker::MountFault;
@@ -16,24 +16,17 @@ pub fn bad_input(heap: Global) -> Result<String, AllocError>
     String::from_str(heap, "input\n")
 }
 
-// Appends a row for each line of a sheet: the number of a variable and its value, in decimal.
-fn push_rows(text: &mut String, sheet: &[u8]) -> Result<(), AllocError>
-    ensures { OnOk result (string_bytes text.new ≡ string_bytes text.old ++ rows sheet.now) }
+// Appends the text of a sheet: how many lines it has, and for each its variable and value, in decimal.
+fn push_sheet(text: &mut String, sheet: &[u8]) -> Result<(), AllocError>
+    ensures { OnOk result (string_bytes text.new ≡ string_bytes text.old ++ sheet_text (length sheet.now / 5) sheet.now) }
 {
     let (lines, _) = sheet.as_chunks::<LINE>();
+    writeln!(text, "sheet {}", lines.len())?;
     for &[variable, b0, b1, b2, b3] in lines {
         let value = i32::from_le_bytes([b0, b1, b2, b3]);
         writeln!(text, "{variable} {value}")?;
     }
     Ok(())
-}
-
-// Appends the text of a sheet with so many lines.
-fn push_sheet(text: &mut String, count: usize, sheet: &[u8]) -> Result<(), AllocError>
-    ensures { OnOk result (string_bytes text.new ≡ string_bytes text.old ++ sheet_text count sheet.now) }
-{
-    writeln!(text, "sheet {count}")?;
-    push_rows(text, sheet)
 }
 
 // The number and the label that a mount answers.
@@ -67,7 +60,7 @@ fn push_answer(text: &mut String, answer: &Answer) -> Result<(), AllocError>
             let number = u8::from(*ending);
             writeln!(text, "end {number}")
         }
-        Answer::Shown(Ok(sheet)) => push_sheet(text, sheet.count(), sheet.bytes.as_slice()),
+        Answer::Shown(Ok(sheet)) => push_sheet(text, sheet.bytes.as_slice()),
         _ => Ok(()),
     }
 }
