@@ -47,8 +47,5 @@ pub extern "C" fn nextabur_mount(job: &[u8]) -> u32
 pub extern "C" fn nextabur_run(job: &[u8], budget: u32) -> u64
     ensures { result ≡ run_number job.now budget }
 {
-    match judge(job) {
-        Ok(program) => run_from_zeros(program, budget),
-        Err(_) => 3 * 0x1_0000_0000,
-    }
+    judge(job).map_or(3 * 0x1_0000_0000, |program| run_from_zeros(program, budget))
 }
