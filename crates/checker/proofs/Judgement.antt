@@ -347,7 +347,7 @@ module _ (o : Order) (levels bytes : List ℕ) where
         (instruction opened a.within (λ l h. says bytes s l (a.before l h)) eight.0))
         (search_first (instruction_rule bytes s) s.instructions)
 
-  verdict_judged : Outcome (verdict o levels bytes)
+  pub verdict_judged : Outcome (verdict o levels bytes)
   verdict_judged = by (opening bytes) refl
     where
       by : (r : Result Sizes ReadFault) → opening bytes ≡ r → Outcome (sized_verdict o levels bytes r)

@@ -1,7 +1,6 @@
 -- The job and the lattice that the checker's rules stand on. Assumes nothing.
 use Rattle.std.specs.Prelude.{◌≡◌, ℕ, ◌<◌, cond, List, Result, ◌==◌}
-use Rattle.job.specs.Layout.{claim_record}
-use Rattle.job.specs.Records.{Claimed, claim_in}
+use Rattle.job.specs.Records.{Claimed}
 use Rattle.job.specs.Of.{sizes, claim_says}
 use Rattle.job.specs.declared.claim.Place.{Place}
 use Rattle.lattice.specs.Order.{Order}
@@ -10,14 +9,14 @@ use Rattle.checker.specs.declared.leaving.Leaving.{Leaving}
 use Rattle.checker.specs.declared.rules.Rules.{Rules}
 use Rattle.checker.specs.Faults.{mount_answer}
 use Rattle.checker.specs.Leaving.{leaves}
-use Rattle.checker.specs.Verdict.{first_below}
+use Rattle.checker.specs.Verdict.{claimed_job, first_below}
 use Rattle.checker.specs.Rules.{ProgramWithClaims}
 
 abbrev pub levels_of : {L : Type 0} → Rules L → List ℕ
 levels_of r = r.levels.now
 
 abbrev pub job_of : {L : Type 0} → Rules L → ProgramWithClaims
-job_of r = record { code = r.program.now; claim = λ label. claim_in (claim_record r.job.bytes.now (sizes r.job) label) }
+job_of r = claimed_job r.program.now r.job.bytes.now (sizes r.job)
 
 -- What a claimed label claims, and what leaves it.
 abbrev pub says : {L : Type 0} → Leaving L → Claimed

@@ -1,5 +1,5 @@
 ghost use Rattle.std.specs.Prelude.{◌≡◌};
-ghost use Rattle.checker.specs.Faults.{rule_number, fault_answer};
+ghost use Rattle.checker.specs.Faults.{rule_number, fault_answer, mount_answer as mount_answer_of};
 ghost use Rattle.checker.specs.declared.fault.MountFault.TheVariants.{Read};
 
 use job::{ReadFault, RecordFault};
@@ -65,4 +65,14 @@ impl From<MountFault> for (u8, u16) {
             MountFault::Claims(rule, label) => (u8::from(rule), label),
         }
     }
+}
+
+// The number and the label that mount answers, 0 and 0 where the job is accepted.
+pub fn mount_answer<T>(answer: &Result<T, MountFault>) -> (u8, u16)
+    ensures { result ≡ mount_answer_of answer.now }
+{
+    answer
+        .as_ref()
+        .err()
+        .map_or((0, 0), |fault| <(u8, u16)>::from(*fault))
 }

@@ -3,7 +3,7 @@ ghost use Rattle.job.specs.Layout.{opening};
 ghost use Rattle.job.specs.Of.{sizes};
 ghost use Rattle.checker.specs.Faults.{mount_answer};
 ghost use Rattle.checker.specs.Rules.{label_rule, exit};
-ghost use Rattle.checker.specs.Verdict.{claimed_job, first_below, instruction_rule, claim_rule, branch_rule, code_below, rules_verdict, decoded_code, verdict as verdict_of};
+ghost use Rattle.checker.specs.Verdict.{first_below, instruction_rule, claim_rule, branch_rule, code_below, rules_verdict, decoded_code, verdict as verdict_of};
 ghost use Rattle.checker.specs.Of.{levels_of, job_of, FindsFirstFault};
 ghost use Rattle.checker.specs.Region.{MarksAreTheRegion};
 ghost use Rattle.checker.specs.WellClaimed.{Judged};
@@ -87,24 +87,6 @@ impl<L: Lattice> Rules<'_, L> {
     }
 }
 
-// The first rule of claims that a decoded job breaks.
-fn check_rules<'x, L: Lattice>(
-    lattice: &'x L,
-    levels: &'x [u16],
-    job: Job<'x>,
-    program: &'x Program,
-) -> Result<(), MountFault>
-    ensures { mount_answer result ≡ rules_verdict (L.Lattice.order lattice.now) levels.now (claimed_job program.now job.entry.bytes.now (sizes job.entry)) }
-{
-    let rules = Rules {
-        lattice,
-        levels,
-        job,
-        program,
-    };
-    rules.check_claims()
-}
-
 // The first rule that a job breaks, or its program.
 fn judge_bytes<L: Lattice>(lattice: &L, levels: &[u16], bytes: &[u8]) -> Result<Program, MountFault>
     ensures verdict { mount_answer result ≡ verdict_of (L.Lattice.order lattice.now) levels.now bytes.now }
@@ -113,7 +95,13 @@ fn judge_bytes<L: Lattice>(lattice: &L, levels: &[u16], bytes: &[u8]) -> Result<
     let job = Job::read(bytes)?;
     let program = decode(&job)?;
     check_records(lattice, &job)?;
-    check_rules(lattice, levels, job, &program)?;
+    let rules = Rules {
+        lattice,
+        levels,
+        job,
+        program: &program,
+    };
+    rules.check_claims()?;
     Ok(program)
 }
 

@@ -9,5 +9,5 @@ mod leaving;
 mod marks;
 mod rules;
 
-pub use fault::{MountFault, Rule};
+pub use fault::{MountFault, Rule, mount_answer};
 pub use judge::check;
