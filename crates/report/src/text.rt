@@ -1,11 +1,11 @@
 ghost use Rattle.std.specs.Prelude.{◌≡◌, ◌/◌, ◌++◌, length, map, IfOk, string_bytes, OnOk};
-ghost use Rattle.checker.specs.Faults.{mount_answer};
+ghost use Rattle.checker.specs.Faults.{mount_answer as mount_answer_of};
 ghost use Rattle.controller.specs.Of.{answer_of};
 ghost use Rattle.report.specs.Of.{Tells};
 ghost use Rattle.report.specs.Report.{bad_input as bad_input_text, sheet_text, mount_line, answer_lines, is_refused as is_refused_of, answers_text as answers_text_of};
 
 use crate::no_report::NoReport;
-use checker::MountFault;
+use checker::{MountFault, mount_answer};
 use controller::{Answer, LINE};
 use std::alloc::{AllocError, Global};
 
@@ -29,20 +29,11 @@ fn push_sheet(text: &mut String, sheet: &[u8]) -> Result<(), AllocError>
     Ok(())
 }
 
-// The number and the label that a mount answers.
-fn numbers(answer: &Result<(), MountFault>) -> (u8, u16)
-    ensures { result ≡ mount_answer answer.now }
-{
-    answer
-        .err()
-        .map_or((0, 0), |fault| <(u8, u16)>::from(fault))
-}
-
 // Appends the line of a mount's answer.
 fn push_mount(text: &mut String, answer: &Result<(), MountFault>) -> Result<(), AllocError>
-    ensures { OnOk result (string_bytes text.new ≡ string_bytes text.old ++ mount_line (mount_answer answer.now)) }
+    ensures { OnOk result (string_bytes text.new ≡ string_bytes text.old ++ mount_line (mount_answer_of answer.now)) }
 {
-    let (number, label) = numbers(answer);
+    let (number, label) = mount_answer(answer);
     writeln!(text, "mount {number} {label}")
 }
 
