@@ -210,16 +210,19 @@ mod tests {
     }
 
     // Compares the sheets after two runs, of 11 steps and of 10, on secrets that take the two ways of the branch.
-    fn compare<L: Lattice + Drop>(
+    fn compare<L: Lattice + Clone + Drop>(
         rt: &impl Abort,
         heap: Global,
-        left: L,
-        right: L,
+        lattice: L,
         levels: &Levels,
     ) -> Result<(), Fail> {
         let job = job(heap, levels)?;
-        let left = transcript(heap, left, &calls(job.as_slice(), levels, 0, 11))?;
-        let right = transcript(heap, right, &calls(job.as_slice(), levels, -1, 1000))?;
+        let left = transcript(
+            heap,
+            lattice.clone()?,
+            &calls(job.as_slice(), levels, 0, 11),
+        )?;
+        let right = transcript(heap, lattice, &calls(job.as_slice(), levels, -1, 1000))?;
         let (left_open, left_all) = sheets(rt, left.as_slice())?;
         let (right_open, right_all) = sheets(rt, right.as_slice())?;
         assert_eq!(rt; left_open.count(), 3);
@@ -238,7 +241,7 @@ mod tests {
             closed: 3,
             highest: 15,
         };
-        compare(&rt, rt.alloc(), Ladder::new(16), Ladder::new(16), &levels)
+        compare(&rt, rt.alloc(), Ladder::new(16), &levels)
     }
 
     // The closed level and the observer's are two owners, neither at most the other.
@@ -250,7 +253,7 @@ mod tests {
             closed: 4,
             highest: 15,
         };
-        compare(&rt, rt.alloc(), Owners::new(4), Owners::new(4), &levels)
+        compare(&rt, rt.alloc(), Owners::new(4), &levels)
     }
 
     // The observer's parts are 1 and 2. The closed level's, 0 and 0, are at most these in the first only.
@@ -265,7 +268,6 @@ mod tests {
         compare(
             &rt,
             rt.alloc(),
-            Pair::new(Ladder::new(4), Flip::new(Ladder::new(4))),
             Pair::new(Ladder::new(4), Flip::new(Ladder::new(4))),
             &levels,
         )

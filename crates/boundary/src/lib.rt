@@ -3,16 +3,16 @@
 
 ghost use Rattle.std.specs.Prelude.{◌≡◌, IfOk};
 ghost use Rattle.push.specs.Run.{begun, run};
-ghost use Rattle.checker.specs.Faults.{mount_answer};
+ghost use Rattle.checker.specs.Faults.{mount_answer as mount_answer_of};
 ghost use Rattle.boundary.specs.Answers.{verdict_on, code_in, zeros, mount_number, end_number, run_number};
 
-use checker::{MountFault, check};
+use checker::{MountFault, check, mount_answer};
 use lattice::Ladder;
 use push::{Program, Run, VARIABLES};
 
 // The verdict over a ladder of 16 with every variable at level 0, and the program where it is accepted.
 fn judge(job: &[u8]) -> Result<Program, MountFault>
-    ensures verdict { mount_answer result ≡ verdict_on job.now }
+    ensures verdict { mount_answer_of result ≡ verdict_on job.now }
     ensures program { IfOk result (λ p. p ≡ code_in job.now) }
 {
     check(&Ladder::new(16), &[0; VARIABLES], job)
@@ -32,13 +32,8 @@ fn run_from_zeros(program: Program, budget: u32) -> u64
 pub extern "C" fn nextabur_mount(job: &[u8]) -> u32
     ensures { result ≡ mount_number (verdict_on job.now) }
 {
-    match judge(job) {
-        Ok(_) => 0,
-        Err(fault) => {
-            let (number, label) = <(u8, u16)>::from(fault);
-            u32::from(number) * 0x1_0000 + u32::from(label)
-        }
-    }
+    let (number, label) = mount_answer(&judge(job));
+    u32::from(number) * 0x1_0000 + u32::from(label)
 }
 
 // Runs a job that mount accepts from values that are all 0: the status's number × 2^32 + the steps that were made.
@@ -47,8 +42,5 @@ pub extern "C" fn nextabur_mount(job: &[u8]) -> u32
 pub extern "C" fn nextabur_run(job: &[u8], budget: u32) -> u64
     ensures { result ≡ run_number job.now budget }
 {
-    match judge(job) {
-        Ok(program) => run_from_zeros(program, budget),
-        Err(_) => 3 * 0x1_0000_0000,
-    }
+    judge(job).map_or(3 * 0x1_0000_0000, |program| run_from_zeros(program, budget))
 }

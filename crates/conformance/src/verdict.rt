@@ -7,7 +7,7 @@ ghost use Rattle.conformance.specs.Of.{difference, tally_found};
 use crate::table::Case;
 use crate::tally::Tally;
 use report::report;
-use std::alloc::{AllocError, Global};
+use std::alloc::Global;
 use std::io;
 use std::io::Write;
 
@@ -71,15 +71,14 @@ fn write_summary(summary: &mut Vec<u8>, tally: &Tally) -> io::Result<()>
 }
 
 // The verdict on a table: every case is run, and the first that differs is shown.
-pub fn judge(heap: Global, table: &[u8]) -> Result<Verdict, AllocError>
+pub fn judge(heap: Global, table: &[u8]) -> io::Result<Verdict>
     ensures passed { IfOk result (λ v. v.passed ≡ passes table.now) }
     ensures conforms { IfOk result (λ v. (v.passed ≡ true → Conforms (cases table.now) × (left_over table.now ≡ []))) }
     ensures text { IfOk result (λ v. v.text.items ≡ summary_of table.now) }
 {
     let tally = Tally::count(heap, table)?;
     let mut text = Vec::new(heap);
-    // What is written to memory fails only where memory is not found.
-    write_summary(&mut text, &tally).map_err(|_| AllocError)?;
+    write_summary(&mut text, &tally)?;
     Ok(Verdict {
         passed: tally.is_clean(),
         text,

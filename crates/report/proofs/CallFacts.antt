@@ -1,4 +1,4 @@
--- The calls for an input, as a chain of iterators gives them. Assumes nothing.
+-- What iterators give, and the calls for an input as a chain of them gives these. Assumes nothing.
 use Rattle.std.proofs.Common.{◌≡◌, ℕ, List, [], ◌∷◌, ◌++◌, map, append_assoc, Option, Result, Ok, Err, IfOk, vec_items, Vec, ap, ◌∙◌, subst}
 use lib.ListN.{length-map}
 use Rattle.std.specs.Array.Iter.{array_into_iter_items, array_steps}
@@ -18,13 +18,13 @@ pub from_collect : {S A B Z E : Type 0} {steps : S → Option A → S → Type 0
 from_collect {v = v} (Ok w) wanted (xs, drained, items) same yields = ap (map v) items.0 ∙ items_from_drains xs drained yields ∙ same
 from_collect (Err e) wanted ran same yields = tt
 
--- what v reads of the items that come
-always_viewed : {S A B : Type 0} (steps : S → Option A → S → Type 0) (v : A → B) (xs : List A) (s : S) → AlwaysYields steps (λ x. x) s xs → AlwaysYields steps v s (map v xs)
-always_viewed steps v [] s all = all
-always_viewed steps v (x ∷ xs) s all = (all.0, λ y t step. let next = all.1 y t step in (ap v next.0, always_viewed steps v xs t next.1))
+-- what w reads of the items that come
+always_viewed : {S A B C : Type 0} (steps : S → Option A → S → Type 0) (v : A → B) (w : B → C) (xs : List B) (s : S) → AlwaysYields steps v s xs → AlwaysYields steps (λ x. w (v x)) s (map w xs)
+always_viewed steps v w [] s all = all
+always_viewed steps v w (x ∷ xs) s all = (all.0, λ y t step. let next = all.1 y t step in (ap w next.0, always_viewed steps v w xs t next.1))
 
-pub viewed : {S A B : Type 0} {steps : S → Option A → S → Type 0} {s : S} {xs : List A} (v : A → B) → YieldsList steps (λ x. x) s xs → YieldsList steps v s (map v xs)
-viewed {steps = steps} {s = s} {xs = xs} v all = record { runs = always_viewed steps v xs s all.runs }
+pub viewed : {S A B C : Type 0} {steps : S → Option A → S → Type 0} {v : A → B} {s : S} {xs : List B} (w : B → C) → YieldsList steps v s xs → YieldsList steps (λ x. w (v x)) s (map w xs)
+viewed {steps = steps} {v = v} {s = s} {xs = xs} w all = record { runs = always_viewed steps v w xs s all.runs }
 
 -- The parts of the chain are the whole list.
 pub all_parts : (bytes job : List ℕ) (after : List Call) → job ≡ job_of bytes → ((each (λ v. grade v (level bytes v)) ++ (seal ∷ mount job ∷ [])) ++ each (λ v. set v (value bytes v))) ++ after ≡ calls_then bytes after

@@ -1,5 +1,4 @@
 pub mod Made
 pub mod Rows
 pub mod CallFacts
-pub mod LineFacts
 pub mod AfterFacts

@@ -1,7 +1,8 @@
 -- The report's bytes. Assumes nothing.
-use Rattle.std.specs.Prelude.{ℕ, ◌+◌, ◌*◌, Bool, false, cond, not, ◌||◌, List, [], ◌∷◌, ◌++◌, ℤ, Some, None, codes, decimal, Option, ◌==◌, slice_index}
+use Rattle.std.specs.Prelude.{ℕ, ◌+◌, ◌*◌, Bool, false, cond, not, List, [], ◌∷◌, ◌++◌, ℤ, Some, None, codes, decimal, Option, ◌==◌, slice_index}
 use Rattle.std.specs.Int.{w32, cast_signed}
 use Rattle.std.specs.Fmt.{signed_decimal}
+use Rattle.std.specs.List.{flat_map, list_any}
 use Rattle.lattice.specs.Order.{Order}
 use Rattle.controller.specs.Lists.{Call, Answer, graded, sealed, mounted, was_set, was_read, shown, started, advanced, ended, unsealed, not_allowed, transcript}
 use Rattle.report.specs.Input.{fits, kind, calls, calls_then}
@@ -50,10 +51,6 @@ answer_lines (ended answer) = end_line answer
 answer_lines unsealed = []
 answer_lines (not_allowed _) = []
 
-abbrev pub lines : List Answer → List ℕ
-lines [] = []
-lines (answer ∷ answers) = answer_lines answer ++ lines answers
-
 -- A level or an observer that is no level makes an input bad: a grade or a show is refused.
 abbrev pub is_refused : Answer → Bool
 is_refused (graded number) = not (number == 0)
@@ -68,12 +65,8 @@ is_refused (ended _) = false
 is_refused unsealed = false
 is_refused (not_allowed _) = false
 
-abbrev pub any_refused : List Answer → Bool
-any_refused [] = false
-any_refused (answer ∷ answers) = is_refused answer || any_refused answers
-
 abbrev pub answers_text : List Answer → List ℕ
-answers_text answers = cond (any_refused answers) bad_input (lines answers)
+answers_text answers = cond (list_any is_refused answers) bad_input (flat_map answer_lines answers)
 
 -- What is written of an input where those calls are made after its values are set.
 abbrev pub text_after : List Call → Order → List ℕ → List ℕ

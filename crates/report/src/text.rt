@@ -1,11 +1,11 @@
-ghost use Rattle.std.specs.Prelude.{◌≡◌, ◌++◌, map, IfOk, string_bytes, OnOk};
-ghost use Rattle.checker.specs.Faults.{mount_answer};
+ghost use Rattle.std.specs.Prelude.{◌≡◌, ◌/◌, ◌++◌, length, map, IfOk, string_bytes, OnOk};
+ghost use Rattle.checker.specs.Faults.{mount_answer as mount_answer_of};
 ghost use Rattle.controller.specs.Of.{answer_of};
 ghost use Rattle.report.specs.Of.{Tells};
-ghost use Rattle.report.specs.Report.{bad_input as bad_input_text, rows, sheet_text, mount_line, answer_lines, is_refused as is_refused_of, answers_text as answers_text_of};
+ghost use Rattle.report.specs.Report.{bad_input as bad_input_text, sheet_text, mount_line, answer_lines, is_refused as is_refused_of, answers_text as answers_text_of};
 
 use crate::no_report::NoReport;
-use checker::MountFault;
+use checker::{MountFault, mount_answer};
 use controller::{Answer, LINE};
 use std::alloc::{AllocError, Global};
 
@@ -16,11 +16,12 @@ pub fn bad_input(heap: Global) -> Result<String, AllocError>
     String::from_str(heap, "input\n")
 }
 
-// Appends a row for each line of a sheet: the number of a variable and its value, in decimal.
-fn push_rows(text: &mut String, sheet: &[u8]) -> Result<(), AllocError>
-    ensures { OnOk result (string_bytes text.new ≡ string_bytes text.old ++ rows sheet.now) }
+// Appends the text of a sheet: how many lines it has, and for each its variable and value, in decimal.
+fn push_sheet(text: &mut String, sheet: &[u8]) -> Result<(), AllocError>
+    ensures { OnOk result (string_bytes text.new ≡ string_bytes text.old ++ sheet_text (length sheet.now / 5) sheet.now) }
 {
     let (lines, _) = sheet.as_chunks::<LINE>();
+    writeln!(text, "sheet {}", lines.len())?;
     for &[variable, b0, b1, b2, b3] in lines {
         let value = i32::from_le_bytes([b0, b1, b2, b3]);
         writeln!(text, "{variable} {value}")?;
@@ -28,28 +29,11 @@ fn push_rows(text: &mut String, sheet: &[u8]) -> Result<(), AllocError>
     Ok(())
 }
 
-// Appends the text of a sheet with so many lines.
-fn push_sheet(text: &mut String, count: usize, sheet: &[u8]) -> Result<(), AllocError>
-    ensures { OnOk result (string_bytes text.new ≡ string_bytes text.old ++ sheet_text count sheet.now) }
-{
-    writeln!(text, "sheet {count}")?;
-    push_rows(text, sheet)
-}
-
-// The number and the label that a mount answers.
-fn numbers(answer: &Result<(), MountFault>) -> (u8, u16)
-    ensures { result ≡ mount_answer answer.now }
-{
-    answer
-        .err()
-        .map_or((0, 0), |fault| <(u8, u16)>::from(fault))
-}
-
 // Appends the line of a mount's answer.
 fn push_mount(text: &mut String, answer: &Result<(), MountFault>) -> Result<(), AllocError>
-    ensures { OnOk result (string_bytes text.new ≡ string_bytes text.old ++ mount_line (mount_answer answer.now)) }
+    ensures { OnOk result (string_bytes text.new ≡ string_bytes text.old ++ mount_line (mount_answer_of answer.now)) }
 {
-    let (number, label) = numbers(answer);
+    let (number, label) = mount_answer(answer);
     writeln!(text, "mount {number} {label}")
 }
 
@@ -67,7 +51,7 @@ fn push_answer(text: &mut String, answer: &Answer) -> Result<(), AllocError>
             let number = u8::from(*ending);
             writeln!(text, "end {number}")
         }
-        Answer::Shown(Ok(sheet)) => push_sheet(text, sheet.count(), sheet.bytes.as_slice()),
+        Answer::Shown(Ok(sheet)) => push_sheet(text, sheet.bytes.as_slice()),
         _ => Ok(()),
     }
 }

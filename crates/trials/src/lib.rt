@@ -3,7 +3,7 @@
 
 #[cfg(test)]
 mod tests {
-    use checker::check as mount;
+    use checker::{check, mount_answer};
     use lattice::Ladder;
     use std::test::Fail;
 
@@ -25,10 +25,7 @@ mod tests {
     fn answer(bytes: &[u8]) -> (u8, u16) {
         let mut levels = [3; 32];
         levels[0] = 0;
-        match mount(&Ladder::new(16), &levels, bytes) {
-            Ok(_) => (0, 0),
-            Err(fault) => fault.into(),
-        }
+        mount_answer(&check(&Ladder::new(16), &levels, bytes))
     }
 
     #[test]
