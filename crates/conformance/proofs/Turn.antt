@@ -1,14 +1,16 @@
 -- What one case more does to a tally. Assumes nothing.
 use Rattle.std.proofs.Common.{◌≡◌, ℕ, suc, ◌+◌, ◌^◌, ◌<◌, Bool, true, false, List, [], ◌∷◌, length, Some, None, Option, sym, refl, ap, ◌∙◌, arith}
+use Rattle.std.specs.List.{count_by}
 use Rattle.std.proofs.lemmas.Bool.{cond-true, cond-false}
 use Rattle.conformance.specs.Table.{Trial, next_case, cases}
-use Rattle.conformance.specs.Found.{Found, agrees, agreeing, first_differing, found, or_else, noted}
+use Rattle.conformance.specs.Found.{Found, agrees, first_differing, found, or_else, noted}
+use Rattle.conformance.proofs.Agreement.{count_more}
 use Rattle.conformance.proofs.Walk.{was_some, cases_more, cases_few}
 
 -- What was found, with some cases more at the end.
 abbrev pub onward : Found → List Trial → Found
 onward before trials =
-    record { run = before.run + length trials; agreed = before.agreed + agreeing trials; differs = or_else before.differs (first_differing before.run trials) }
+    record { run = before.run + length trials; agreed = before.agreed + count_by agrees trials; differs = or_else before.differs (first_differing before.run trials) }
 
 or_none : (d : Option (ℕ × Trial)) → or_else d None ≡ d
 or_none None = refl
@@ -23,7 +25,7 @@ onward_none s =
 pub onward_first : (trials : List Trial) → onward (record { run = 0; agreed = 0; differs = None }) trials ≡ found trials
 onward_first trials =
     let run : 0 + length trials ≡ length trials = omega arith in
-    let agreed : 0 + agreeing trials ≡ agreeing trials = omega arith in
+    let agreed : 0 + count_by agrees trials ≡ count_by agrees trials = omega arith in
     λ i. record { run = run i; agreed = agreed i; differs = first_differing 0 trials }
 
 or_twice : (d : Option (ℕ × Trial)) (x : ℕ × Trial) (later : Option (ℕ × Trial)) → or_else (or_else d (Some x)) later ≡ or_else d (Some x)
@@ -33,13 +35,12 @@ or_twice (Some y) x later = refl
 onward_noted : (s : Found) (trial : Trial) (trials : List Trial) (agreed : Bool) → agreed ≡ agrees trial → onward (noted s trial agreed) trials ≡ onward s (trial ∷ trials)
 onward_noted s trial trials true e =
     let run : s.run + 1 + length trials ≡ s.run + suc (length trials) = omega arith in
-    let more : s.agreed + 1 + agreeing trials ≡ s.agreed + (1 + agreeing trials) = omega arith in
-    let counted : s.agreed + 1 + agreeing trials ≡ s.agreed + agreeing (trial ∷ trials) = more ∙ ap (λ n. s.agreed + n) (sym (cond-true (agrees trial) (1 + agreeing trials) (agreeing trials) (sym e))) in
+    let counted : s.agreed + 1 + count_by agrees trials ≡ s.agreed + count_by agrees (trial ∷ trials) = omega (arith, count_more trial trials, cond-true {A = ℕ} (agrees trial) 1 0 (sym e)) in
     let later = sym (cond-true (agrees trial) (first_differing (s.run + 1) trials) (Some (s.run, trial)) (sym e)) in
     λ i. record { run = run i; agreed = counted i; differs = or_else s.differs (later i) }
 onward_noted s trial trials false e =
     let run : s.run + 1 + length trials ≡ s.run + suc (length trials) = omega arith in
-    let counted = ap (λ n. s.agreed + n) (sym (cond-false (agrees trial) (1 + agreeing trials) (agreeing trials) (sym e))) in
+    let counted : s.agreed + count_by agrees trials ≡ s.agreed + count_by agrees (trial ∷ trials) = omega (arith, count_more trial trials, cond-false {A = ℕ} (agrees trial) 1 0 (sym e)) in
     let this = sym (cond-false (agrees trial) (first_differing (s.run + 1) trials) (Some (s.run, trial)) (sym e)) in
     let differs = or_twice s.differs (s.run, trial) (first_differing (s.run + 1) trials) ∙ ap (or_else s.differs) this in
     λ i. record { run = run i; agreed = counted i; differs = differs i }

@@ -1,19 +1,17 @@
 -- A table, case by case. Assumes nothing.
-use Rattle.std.proofs.Common.{◌≡◌, ℕ, zero, suc, ◌+◌, ◌*◌, ◌<◌, ◌≤◌, Bool, true, false, cond, List, [], ◌∷◌, length, get_or, take, drop, is_some, Some, None, sym, refl, ap, ◌∙◌, ap₂, ⊎_elim, arith, length-drop, drop-drop}
+use Rattle.std.proofs.Common.{◌≡◌, ℕ, zero, suc, ◌+◌, ◌*◌, ◌<◌, ◌≤◌, Bool, true, false, cond, List, [], ◌∷◌, length, get_or, take, drop, Some, None, sym, refl, ap, ◌∙◌, ap₂, ⊎_elim, arith, length-drop, drop-drop}
 use Rattle.std.proofs.lemmas.List.{get_or-take}
-use Rattle.std.proofs.lemmas.Bool.{cases_Bool, false≢true, cond-true, cond-false, le-leb, lt-leb, leb-true}
+use Rattle.std.proofs.lemmas.Option.{none-some, cond_some}
+use Rattle.std.proofs.lemmas.Bool.{cases_Bool, cond-true, cond-false, le-leb, lt-leb, leb-true}
 use Rattle.conformance.specs.Table.{Trial, input_length, expected_length, size, first_case, has_case, after_case, next_case, split_within, cases, left_over}
 
 pub reads_none : (t : List ℕ) → length t < size t → None ≡ next_case t
 unfolding next_case
 reads_none t short = sym (cond-false (has_case t) (Some (first_case t, after_case t)) None (lt-leb (size t) (length t) short))
 
--- The lengths stand in the first four bytes.
-pub input_read : (t lengths : List ℕ) (n : ℕ) → lengths ≡ take 4 t → n ≡ get_or lengths 0 0 + get_or lengths 1 0 * 256 → n ≡ input_length t
-input_read t lengths n front read = omega (arith, read, ap (λ f. get_or f 0 0) front, ap (λ f. get_or f 1 0) front, get_or-take 4 t 0 0 (omega arith), get_or-take 4 t 1 0 (omega arith))
-
-pub expected_read : (t lengths : List ℕ) (n : ℕ) → lengths ≡ take 4 t → n ≡ get_or lengths 2 0 + get_or lengths 3 0 * 256 → n ≡ expected_length t
-expected_read t lengths n front read = omega (arith, read, ap (λ f. get_or f 2 0) front, ap (λ f. get_or f 3 0) front, get_or-take 4 t 2 0 (omega arith), get_or-take 4 t 3 0 (omega arith))
+-- A length stands in two of the first four bytes.
+pub length_read : (t lengths : List ℕ) (at n : ℕ) → at + 1 < 4 → lengths ≡ take 4 t → n ≡ get_or lengths at 0 + get_or lengths (at + 1) 0 * 256 → n ≡ get_or t at 0 + get_or t (at + 1) 0 * 256
+length_read t lengths at n within front read = omega (arith, read, ap (λ f. get_or f at 0) front, ap (λ f. get_or f (at + 1) 0) front, get_or-take 4 t at 0 (omega arith), get_or-take 4 t (at + 1) 0 (omega arith))
 
 -- Two cuts behind the lengths give the first case and what comes after it.
 pub reads_whole : (t body input expected middle rest : List ℕ) (n m : ℕ) → size t ≤ length t → n ≡ input_length t → m ≡ expected_length t → body ≡ drop 4 t → input ≡ take n body → middle ≡ drop n body → expected ≡ take m middle → rest ≡ drop m middle → Some ((input, expected), rest) ≡ next_case t
@@ -26,22 +24,15 @@ reads_whole t body input expected middle rest n m long is_n is_m is_body is_inpu
     let whole : has_case t ≡ true = le-leb (size t) (length t) long in
     (λ i. Some ((first i, second i), last i)) ∙ sym (cond-true (has_case t) (Some (first_case t, after_case t)) None whole)
 
-none_not_some : {X : Type 0} {x : X} → None ≡ Some x → ⊥
-none_not_some e = false≢true (ap is_some e)
-
-some_cond : {X : Type 0} (b : Bool) (x y : X) → Some x ≡ cond b (Some y) None → (b ≡ true) × (x ≡ y)
-some_cond true x y e = (refl, cc)
-some_cond false x y e = absurd (none_not_some (sym e))
-
 none_cond : {X : Type 0} (b : Bool) (y : X) → None ≡ cond b (Some y) None → b ≡ false
-none_cond true y e = absurd (none_not_some e)
+none_cond true y e = absurd (none-some y e)
 none_cond false y e = refl
 
 pub was_some : (t : List ℕ) (trial : Trial) (rest : List ℕ) → Some (trial, rest) ≡ next_case t → (has_case t ≡ true) × (trial ≡ first_case t) × (rest ≡ after_case t)
 unfolding next_case
 was_some t trial rest e =
-    let told = some_cond (has_case t) (trial, rest) (first_case t, after_case t) e in
-    (told.0, ap (λ p. p.0) told.1, ap (λ p. p.1) told.1)
+    let told = cond_some (has_case t) (first_case t, after_case t) (trial, rest) (sym e) in
+    (told.0, ap (λ p. p.0) (sym told.1), ap (λ p. p.1) (sym told.1))
 
 pub was_none : (t : List ℕ) → None ≡ next_case t → has_case t ≡ false
 unfolding next_case

@@ -1,5 +1,6 @@
 -- What a run over some cases finds. Assumes nothing.
 use Rattle.std.specs.Prelude.{◌≡◌, ℕ, ◌+◌, Bool, cond, List, [], ◌∷◌, length, Some, None, Option}
+use Rattle.std.specs.List.{count_by}
 use Rattle.std.specs.Str.{bytes_eq}
 use Rattle.report.specs.Report.{report}
 use Rattle.conformance.specs.Table.{Trial}
@@ -13,11 +14,6 @@ abbrev pub Conforms : List Trial → Type 0
 Conforms [] = Unit {0}
 Conforms (trial ∷ trials) = (report trial.0 ≡ trial.1) × Conforms trials
 
--- How many cases agree.
-abbrev pub agreeing : List Trial → ℕ
-agreeing [] = 0
-agreeing (trial ∷ trials) = cond (agrees trial) (1 + agreeing trials) (agreeing trials)
-
 -- The first case that does not agree, with its number; the first case of the list has the number given.
 abbrev pub first_differing : ℕ → List Trial → Option (ℕ × Trial)
 first_differing number [] = None
@@ -30,7 +26,7 @@ pub record Found : Type 0 where
   pub differs : Option (ℕ × Trial)
 
 abbrev pub found : List Trial → Found
-found trials = record { run = length trials; agreed = agreeing trials; differs = first_differing 0 trials }
+found trials = record { run = length trials; agreed = count_by agrees trials; differs = first_differing 0 trials }
 
 abbrev pub or_else : Option (ℕ × Trial) → Option (ℕ × Trial) → Option (ℕ × Trial)
 or_else None other = other
