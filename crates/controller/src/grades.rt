@@ -4,7 +4,8 @@ use crate::VARIABLES;
 use lattice::Lattice;
 
 // A lattice, and the level of each variable. That the lattice stays is a clause of each call: no type says what a call
-// leaves as it was.
+// leaves as it was. That there are 32 levels is said, since after a call that changes the struct and is silent of it a
+// proof does not know it.
 #[derive(Drop)]
 pub(crate) struct Grades<L> {
     pub(crate) lattice: L,

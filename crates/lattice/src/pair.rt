@@ -56,6 +56,7 @@ impl<A: Lattice, B: Lattice> Pair<A, B> {
         requires second_level { KeepsLevels (B.Lattice.order self.now.second) (G.post second) }
         ensures { MatchBool (levels (pair_span (A.Lattice.order self.now.first) (B.Lattice.order self.now.second)) a b) (IsPartByPart (B.Lattice.order self.now.second) (F.post first) (G.post second) a b result) (result ≡ 0) }
     {
+        // Not by `map_or`: inside its closure no proof is found of what `compose` requires.
         let Some(((a1, a2), (b1, b2))) = self.parts(a).zip(self.parts(b)) else {
             return 0;
         };

@@ -76,6 +76,7 @@ impl Instruction {
             _ => None,
         }
     }
+
     // The labels that it can go to from its own: the next one, if it falls through, and its target.
     pub fn successors(self, label: u8) -> [Option<u16>; 2]
         ensures { flat_map option_to_list result ≡ successors self label }

@@ -55,16 +55,14 @@ mod tests {
             answer(&[1, 0, 0, 0, 4, 0, 0, 0, 0, 0, 1, 0, 0, 0]),
             (11, 0)
         );
-        let too_low = [
+        // 0 load 1, 1 store 0: variable 0 is too low, and then the level claimed at label 1.
+        let mut job = [
             2, 0, 1, 0, 1, 0, 1, 0, 0, 0, 2, 0, 0, 0, 0, 0, 1, 0, 0, 0, 0, 0, 0, 1, 1, 0, 0, 0, 3,
             0,
         ];
-        assert_eq!(rt; answer(&too_low), (12, 1));
-        let not_taken = [
-            2, 0, 1, 0, 1, 0, 1, 0, 0, 0, 2, 0, 0, 0, 0, 0, 1, 0, 0, 0, 0, 0, 0, 1, 1, 0, 0, 0, 2,
-            0,
-        ];
-        assert_eq!(rt; answer(&not_taken), (13, 0));
+        assert_eq!(rt; answer(&job), (12, 1));
+        job[28] = 2;
+        assert_eq!(rt; answer(&job), (13, 0));
     }
 
     #[test]

@@ -32,6 +32,7 @@ impl<L: Lattice> Ready<L> {
         ensures same_lattice { self.new.grades.lattice ≡ self.old.grades.lattice }
     {
         let index = index_of(variable)?;
+        // Not through `get_mut`: of what is written through it a proof knows the length alone.
         self.values[index] = value;
         Ok(())
     }

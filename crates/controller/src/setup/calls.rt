@@ -33,6 +33,7 @@ impl<L: Lattice> Setup<L> {
         if !self.grades.lattice.is_level(level) {
             return Err(Refusal::NoLevel);
         }
+        // Not through `get_mut`: of what is written through it a proof knows the length alone.
         self.grades.levels[index] = level;
         Ok(())
     }

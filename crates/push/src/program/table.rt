@@ -33,6 +33,7 @@ impl Program {
         if self.len >= INSTRUCTIONS {
             return Err(ProgramFull);
         }
+        // Not through `get_mut`: of what is written through it a proof knows the length alone.
         self.table[self.len] = instruction;
         self.len += 1;
         Ok(())

@@ -128,7 +128,7 @@ impl State {
         if index >= VARIABLES {
             return None;
         }
-        // Tried: of what is written through get_mut a proof knows the length alone.
+        // Not through `get_mut`: of what is written through it a proof knows the length alone.
         self.values[index] = number;
         self.pop()
     }
