@@ -1,10 +1,7 @@
 // The bench: standard input to a report of what an observer may see.
 #![tactic(auto)]
 
-mod mounted;
-
-use mounted::report;
-use report::Input;
+use report::{Input, report};
 use std::io::Read;
 
 fn main(rt: HostRuntime) -> anyhow::Result<()> {

@@ -1,3 +1,4 @@
 pub mod Input
 pub mod Report
+pub mod Outcomes
 pub mod Of

@@ -1,6 +1,7 @@
 ghost use Rattle.std.specs.Prelude.{◌≡◌, map, IfOk, string_bytes};
 ghost use Rattle.controller.specs.Of.{call_of};
 ghost use Rattle.report.specs.Report.{text_after, input_text, report as report_of};
+ghost use Rattle.report.specs.Outcomes.{TellsTheOutcomes};
 ghost use Rattle.report.specs.Of.{Reads, Tells};
 
 use crate::calls::calls;
@@ -89,7 +90,8 @@ pub fn report_after<'x>(
 
 // The report on a bench input, or the line `input` where it is none: one run, and then what its observer may see.
 pub fn report(heap: Global, bytes: &[u8]) -> Result<String, AllocError>
-    ensures { IfOk result (λ t. string_bytes t ≡ report_of bytes.now) }
+    ensures text { IfOk result (λ t. string_bytes t ≡ report_of bytes.now) }
+    ensures tells_the_outcomes { TellsTheOutcomes bytes.now }
 {
     let input = Input { bytes };
     let run = [
