@@ -1,13 +1,8 @@
 -- The marks of a region, label by label and round by round. Assumes nothing.
-use Rattle.std.proofs.Common.{◌≡◌, ℕ, ◌+◌, Bool, true, false, cond, List, [], ◌∷◌, ◌++◌, length, get_or, nat_eq, slice_set, sym, refl, ap, ◌∙◌, add-one}
+use Rattle.std.proofs.Common.{◌≡◌, ℕ, ◌+◌, Bool, true, false, cond, List, length, get_or, sym, refl, ap, ◌∙◌, add-one}
 use Rattle.std.proofs.lemmas.Bool.{cond-true, cond-false}
 use Rattle.push.specs.declared.instruction.Instruction.{Instruction}
 use Rattle.checker.specs.Region.{next_labels, mark_all, spread_below, spread_times}
-
--- one mark more
-pub mark_one_more : (junction label : ℕ) (labels : List ℕ) (marks : List Bool) → mark_all junction (labels ++ label ∷ []) marks ≡ cond (nat_eq label junction) (mark_all junction labels marks) (slice_set (mark_all junction labels marks) label true)
-mark_one_more junction label [] marks = refl
-mark_one_more junction label (x ∷ labels) marks = mark_one_more junction label labels (cond (nat_eq x junction) marks (slice_set marks x true))
 
 module _ (code : List Instruction) (junction : ℕ) (marks : List Bool) where
   pub spread_none : spread_below code junction 0 marks ≡ marks
