@@ -101,7 +101,7 @@ module _ (o : Order) (levels : List ℕ) (job : ProgramWithClaims) (label : ℕ)
   chosen x y z p q r = ap (λ b. cond b (cond b2 (cond b3 0 13) 12) 11) p ∙ ap (λ b. cond x (cond b (cond b3 0 13) 12) 11) q ∙ ap (λ b. cond x (cond y (cond b 0 13) 12) 11) r
 
   -- the label keeps the rules, or breaks the one whose number it has
-  label_judged : (LabelKept o levels job label c i × (rule_at o levels job label c i ≡ 0)) ⊎ (LabelBreaks o levels job label c i (rule_at o levels job label c i) × (rule_at o levels job label c i ≢ 0))
+  pub label_judged : (LabelKept o levels job label c i × (rule_at o levels job label c i ≡ 0)) ⊎ (LabelBreaks o levels job label c i (rule_at o levels job label c i) × (rule_at o levels job label c i ≢ 0))
   unfolding b1 b2 b3
   label_judged =
       let d1 = decides_fits c i in
@@ -134,7 +134,7 @@ module _ (o : Order) (job : ProgramWithClaims) (label : ℕ) (c : Claimed) where
   no_branch : (i : Instruction) → ((m j : ℕ) → i ≡ GotoF m j → ⊥) → BranchKept o job label c i
   no_branch i h = record { avoids = λ m j e r. h m j e; raised = λ m j inside e r w. absurd (h m j e) }
 
-  branch_judged : (few : exit job ≤ 128) (i : Instruction) → BranchJudged o job label c i
+  pub branch_judged : (few : exit job ≤ 128) (i : Instruction) → BranchJudged o job label c i
   branch_judged few (Load v) = inl (no_branch (Load v) (λ m j e. cc), refl)
   branch_judged few (Store v) = inl (no_branch (Store v) (λ m j e. cc), refl)
   branch_judged few (Push x) = inl (no_branch (Push x) (λ m j e. cc), refl)
@@ -170,7 +170,7 @@ empty_claimed (Some c) h = (c, refl, emptied c.stack h)
 claimed_empty : (oc : Option Claimed) (c : Claimed) → oc ≡ Some c → c.stack ≡ [] → empty_claim oc ≡ true
 claimed_empty oc c e f = ap empty_claim e ∙ ap is_empty f
 
-entry_judged : (job : ProgramWithClaims) → (BeginsEmpty job × (entry_rule job ≡ 0)) ⊎ ((BeginsEmpty job → ⊥) × (entry_rule job ≡ 10))
+pub entry_judged : (job : ProgramWithClaims) → (BeginsEmpty job × (entry_rule job ≡ 0)) ⊎ ((BeginsEmpty job → ⊥) × (entry_rule job ≡ 10))
 entry_judged job =
     ⊎_elim (λ (e : exit job ≡ 0). inl (inl e, cond-true (eqb (exit job) 0) 0 (cond (empty_claim (job.claim 0)) 0 10) (eq-eqb (exit job) 0 e)))
     (λ (ne : exit job ≡ 0 → ⊥).
@@ -182,26 +182,26 @@ entry_judged job =
     (cases_eq (exit job) 0)
 
 -- The records of a job.
-says : (bytes : List ℕ) (s : Sizes) (label : ℕ) → instruction_rule bytes s label ≡ 0 → Says bytes s label
+pub says : (bytes : List ℕ) (s : Sizes) (label : ℕ) → instruction_rule bytes s label ≡ 0 → Says bytes s label
 says bytes s label h = by (instruction_at bytes s label) refl h
   where
     by : (oi : Option Instruction) → instruction_at bytes s label ≡ oi → unlike_instruction oi ≡ 0 → Says bytes s label
     by None e h = no_ten 7 h
     by (Some i) e h = record { instruction = i; read = e }
 
-says_not : (bytes : List ℕ) (s : Sizes) (label : ℕ) → instruction_rule bytes s label ≢ 0 → (Says bytes s label → ⊥) × (instruction_rule bytes s label ≡ 8)
+pub says_not : (bytes : List ℕ) (s : Sizes) (label : ℕ) → instruction_rule bytes s label ≢ 0 → (Says bytes s label → ⊥) × (instruction_rule bytes s label ≡ 8)
 says_not bytes s label ne = by (instruction_at bytes s label) refl
   where
     by : (oi : Option Instruction) → instruction_at bytes s label ≡ oi → (Says bytes s label → ⊥) × (instruction_rule bytes s label ≡ 8)
     by None e = (λ k. cc, ap unlike_instruction e)
     by (Some i) e = absurd (ne (ap unlike_instruction e))
 
-like : (o : Order) (bytes : List ℕ) (s : Sizes) (label : ℕ) → claim_rule o bytes s label ≡ 0 → LikeAClaim o bytes s label
+pub like : (o : Order) (bytes : List ℕ) (s : Sizes) (label : ℕ) → claim_rule o bytes s label ≡ 0 → LikeAClaim o bytes s label
 like o bytes s label h =
     let b = like_a_claim o.span s.places (claim_record bytes s label) in
     ⊎_elim (λ (t : b ≡ true). t) (λ (f : b ≡ false). no_ten 8 (sym (cond-false b 0 9 f) ∙ h)) (cases_Bool b)
 
-like_not : (o : Order) (bytes : List ℕ) (s : Sizes) (label : ℕ) → claim_rule o bytes s label ≢ 0 → (LikeAClaim o bytes s label → ⊥) × (claim_rule o bytes s label ≡ 9)
+pub like_not : (o : Order) (bytes : List ℕ) (s : Sizes) (label : ℕ) → claim_rule o bytes s label ≢ 0 → (LikeAClaim o bytes s label → ⊥) × (claim_rule o bytes s label ≡ 9)
 like_not o bytes s label ne =
     let b = like_a_claim o.span s.places (claim_record bytes s label) in
     ⊎_elim (λ (t : b ≡ true). absurd (ne (cond-true b 0 9 t))) (λ (f : b ≡ false). (λ t. false≢true (sym f ∙ t), cond-false b 0 9 f)) (cases_Bool b)
@@ -229,10 +229,10 @@ opened_few (a ∷ b ∷ c ∷ []) s e = cc
 opened_few (n0 ∷ n1 ∷ d0 ∷ d1 ∷ rest) s e = sized_few (n0 + n1 * 256) (d0 + d1 * 256) (length rest) s e
 
 -- What comes first of two.
-first_when_zero : (v w : ℕ × ℕ) → v.0 ≡ 0 → first_of v w ≡ w
+pub first_when_zero : (v w : ℕ × ℕ) → v.0 ≡ 0 → first_of v w ≡ w
 first_when_zero v w e = cond-true (eqb v.0 0) w v (eq-eqb v.0 0 e)
 
-first_when_some : (v w : ℕ × ℕ) → v.0 ≢ 0 → first_of v w ≡ v
+pub first_when_some : (v w : ℕ × ℕ) → v.0 ≢ 0 → first_of v w ≡ v
 first_when_some v w ne = cond-false (eqb v.0 0) w v (ne_eqb v.0 0 ne)
 
 module _ (o : Order) (levels bytes : List ℕ) where
@@ -258,7 +258,7 @@ module _ (o : Order) (levels bytes : List ℕ) where
     abbrev R : ℕ × ℕ
     R = rules_verdict o levels (job_in bytes s)
 
-    few : exit (job_in bytes s) ≤ 128
+    pub few : exit (job_in bytes s) ≤ 128
     few = omega (arith, code_few bytes s s.instructions, opened_few bytes s opened)
 
     -- the labels that keep their rules, and the first that does not
@@ -357,12 +357,12 @@ module _ (o : Order) (levels bytes : List ℕ) where
   same_sizes : (s t : Sizes) → opening bytes ≡ Ok s → opening bytes ≡ Ok t → s ≡ t
   same_sizes s t p q = cc
 
-  label_clash : {number : ℕ} (job : ProgramWithClaims) (label : ℕ) (c : Claimed) (i : Instruction) → LabelKept o levels job label c i → LabelBreaks o levels job label c i number → ⊥
+  pub label_clash : {number : ℕ} (job : ProgramWithClaims) (label : ℕ) (c : Claimed) (i : Instruction) → LabelKept o levels job label c i → LabelBreaks o levels job label c i number → ⊥
   label_clash job label c i k (stack f) = f k.fits
   label_clash job label c i k (store _ f) = f k.stores
   label_clash job label c i k (successor _ _ f) = f k.taken
 
-  branch_clash : {number : ℕ} (job : ProgramWithClaims) (label : ℕ) (c : Claimed) (i : Instruction) → BranchKept o job label c i → BranchBreaks o job label c i number → ⊥
+  pub branch_clash : {number : ℕ} (job : ProgramWithClaims) (label : ℕ) (c : Claimed) (i : Instruction) → BranchKept o job label c i → BranchBreaks o job label c i number → ⊥
   branch_clash job label c i k (exit_inside f) = f k.avoids
   branch_clash job label c i k (too_low _ f) = f k.raised
 
@@ -370,7 +370,7 @@ module _ (o : Order) (levels bytes : List ℕ) where
   claims_of s e m = subst (λ t. WellClaimed o levels (job_in bytes t)) (sym (same_sizes s m.sizes e m.decodes.opened)) m.well_claimed
 
   -- a job that can be mounted breaks no rule
-  not_both : {number label : ℕ} → FirstBroken o levels bytes number label → Mountable o levels bytes → ⊥
+  pub not_both : {number label : ℕ} → FirstBroken o levels bytes number label → Mountable o levels bytes → ⊥
   not_both (unopened e) m = cc
   not_both (instruction {s = s} {label = label} e within before broken) m =
       broken (subst (λ t. Below t.instructions (Says bytes t)) (sym (same_sizes s m.sizes e m.decodes.opened)) m.decodes.instructions label within)

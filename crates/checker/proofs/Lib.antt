@@ -6,6 +6,7 @@ pub mod Judgement
 pub mod KindFacts
 pub mod Leaves
 pub mod LeavingFacts
+pub mod OnlyFirst
 pub mod OpenFacts
 pub mod RegionFacts
 pub mod RegionSet
