@@ -1,5 +1,5 @@
 -- The first broken rule of a job is the only one, and the verdict names it. Assumes nothing.
-use Rattle.std.proofs.Common.{◌≡◌, ℕ, zero, suc, ◌<◌, Bool, true, false, ◌≢◌, List, Some, None, Ok, Option, sym, refl, ap, ◌∙◌, ap₂, ⊎_elim, add-one, arith}
+use Rattle.std.proofs.Common.{◌≡◌, ℕ, zero, suc, ◌<◌, ◌≢◌, List, Some, None, Ok, Option, sym, refl, ap, ◌∙◌, ap₂, ⊎_elim, add-one, arith}
 use Rattle.std.proofs.lemmas.Bool.{cases_eq, cond-true}
 use Rattle.lattice.specs.Order.{Order}
 use Rattle.push.specs.declared.instruction.Instruction.{Instruction}
@@ -14,19 +14,22 @@ use Rattle.checker.proofs.Judgement.{label_judged, branch_judged, entry_judged, 
 
 -- The first label at which a rule breaks, where no label before it does.
 module _ (rule : ℕ → ℕ) where
-  none_below : (n : ℕ) → ((l : ℕ) → l < n → rule l ≡ 0) → first_below rule n ≡ (0, 0)
+  none_below : (n : ℕ) → Below n (λ l. rule l ≡ 0) → first_below rule n ≡ (0, 0)
   none_below zero h = first_none rule
   none_below (suc n) h = ap (first_below rule) (sym (add-one n)) ∙ first_more rule n (none_below n (λ l w. h l (omega arith))) (h n (omega arith))
 
-  is_first : (label end number : ℕ) → label < end → ((l : ℕ) → l < label → rule l ≡ 0) → rule label ≡ number → number ≢ 0 → first_below rule end ≡ (number, label)
+  is_first : (label end number : ℕ) → label < end → Below label (λ l. rule l ≡ 0) → rule label ≡ number → number ≢ 0 → first_below rule end ≡ (number, label)
   is_first label end number within before e some = sym (first_found rule label end number (none_below label before) (sym e) some within)
 
 -- A rule of the labels that have a claim and an instruction.
+abbrev Where : Option Claimed → Option Instruction → (Claimed → Instruction → Type 0) → Type 0
+Where oc oi P = (c : Claimed) (i : Instruction) → oc ≡ Some c → oi ≡ Some i → P c i
+
 module _ (rule : Claimed → Instruction → ℕ) where
-  kept_where_claimed : (oc : Option Claimed) (oi : Option Instruction) → ((c : Claimed) (i : Instruction) → oc ≡ Some c → oi ≡ Some i → rule c i ≡ 0) → where_claimed rule oc oi ≡ 0
-  kept_where_claimed None oi h = refl
-  kept_where_claimed (Some c) None h = refl
-  kept_where_claimed (Some c) (Some i) h = h c i refl refl
+  kept_where : (oc : Option Claimed) (oi : Option Instruction) → Where oc oi (λ c i. rule c i ≡ 0) → where_claimed rule oc oi ≡ 0
+  kept_where None oi h = refl
+  kept_where (Some c) None h = refl
+  kept_where (Some c) (Some i) h = h c i refl refl
 
 -- A label, and a branch, breaks one rule first.
 module _ (o : Order) (levels : List ℕ) (job : ProgramWithClaims) (label : ℕ) (c : Claimed) (i : Instruction) where
@@ -52,19 +55,40 @@ module _ (o : Order) (levels bytes : List ℕ) where
     abbrev J : ProgramWithClaims
     J = job_in bytes s
 
-    instruction_kept : (l : ℕ) → Says bytes s l → instruction_rule bytes s l ≡ 0
-    instruction_kept l k = ap unlike_instruction k.read
+    -- the first broken rule of each kind, of the records and of the claims
+    abbrev I : ℕ × ℕ
+    I = first_below (instruction_rule bytes s) s.instructions
 
-    instruction_broken : (l : ℕ) → (Says bytes s l → ⊥) → instruction_rule bytes s l ≡ 8
-    instruction_broken l f =
-        ⊎_elim (λ (e : instruction_rule bytes s l ≡ 0). absurd (f (says bytes s l e))) (λ (ne : instruction_rule bytes s l ≡ 0 → ⊥). (says_not bytes s l ne).1) (cases_eq (instruction_rule bytes s l) 0)
+    abbrev C : ℕ × ℕ
+    C = first_below (claim_rule o bytes s) s.instructions
 
-    claim_kept : (l : ℕ) → LikeAClaim o bytes s l → claim_rule o bytes s l ≡ 0
-    claim_kept l k = cond-true (like_a_claim o.span s.places (claim_record bytes s l)) 0 9 k
+    abbrev L : ℕ × ℕ
+    L = first_below (label_rule o levels J) (exit J)
 
-    claim_broken : (l : ℕ) → (LikeAClaim o bytes s l → ⊥) → claim_rule o bytes s l ≡ 9
-    claim_broken l f =
-        ⊎_elim (λ (e : claim_rule o bytes s l ≡ 0). absurd (f (like o bytes s l e))) (λ (ne : claim_rule o bytes s l ≡ 0 → ⊥). (like_not o bytes s l ne).1) (cases_eq (claim_rule o bytes s l) 0)
+    abbrev B : ℕ × ℕ
+    B = first_below (branch_rule o J) (exit J)
+
+    abbrev R : ℕ × ℕ
+    R = records_verdict o bytes s
+
+    abbrev V : ℕ × ℕ
+    V = rules_verdict o levels J
+
+    says_kept : (l : ℕ) → Says bytes s l → instruction_rule bytes s l ≡ 0
+    says_kept l k = ap unlike_instruction k.read
+
+    says_broken : (l : ℕ) → (Says bytes s l → ⊥) → instruction_rule bytes s l ≡ 8
+    says_broken l f =
+        let rule = instruction_rule bytes s l in
+        ⊎_elim (λ (e : rule ≡ 0). absurd (f (says bytes s l e))) (λ (ne : rule ≡ 0 → ⊥). (says_not bytes s l ne).1) (cases_eq rule 0)
+
+    like_kept : (l : ℕ) → LikeAClaim o bytes s l → claim_rule o bytes s l ≡ 0
+    like_kept l k = cond-true (like_a_claim o.span s.places (claim_record bytes s l)) 0 9 k
+
+    like_broken : (l : ℕ) → (LikeAClaim o bytes s l → ⊥) → claim_rule o bytes s l ≡ 9
+    like_broken l f =
+        let rule = claim_rule o bytes s l in
+        ⊎_elim (λ (e : rule ≡ 0). absurd (f (like o bytes s l e))) (λ (ne : rule ≡ 0 → ⊥). (like_not o bytes s l ne).1) (cases_eq rule 0)
 
     entry_kept : BeginsEmpty J → entry_rule J ≡ 0
     entry_kept k = ⊎_elim (λ p. p.1) (λ p. absurd (p.0 k)) (entry_judged J)
@@ -74,87 +98,92 @@ module _ (o : Order) (levels bytes : List ℕ) where
 
     label_kept : (l : ℕ) → WhereClaimed J (LabelKept o levels J) l → label_rule o levels J l ≡ 0
     label_kept l k =
-        kept_where_claimed (rule_at o levels J l) (J.claim l) (fetch J.code l)
+        kept_where (rule_at o levels J l) (J.claim l) (fetch J.code l)
         (λ c i e f. ⊎_elim (λ p. p.1) (λ p. absurd (label_clash o levels bytes J l c i (k c i e f) p.0)) (label_judged o levels J l c i))
 
     branch_kept : (l : ℕ) → WhereClaimed J (BranchKept o J) l → branch_rule o J l ≡ 0
     branch_kept l k =
-        kept_where_claimed (branch_at o J l) (J.claim l) (fetch J.code l)
-        (λ c i e f. ⊎_elim (λ p. p.1) (λ p. absurd (branch_clash o levels bytes J l c i (k c i e f) p.0)) (branch_judged o J l c (few o levels bytes s opened) i))
+        let few_labels = few o levels bytes s opened in
+        kept_where (branch_at o J l) (J.claim l) (fetch J.code l)
+        (λ c i e f. ⊎_elim (λ p. p.1) (λ p. absurd (branch_clash o levels bytes J l c i (k c i e f) p.0)) (branch_judged o J l c few_labels i))
 
-    label_broken : {number label : ℕ} → BreaksAt J (LabelKept o levels J) (LabelBreaks o levels J) number label → (label_rule o levels J label ≡ number) × (number ≢ 0)
-    label_broken {number} {label} b =
-        let c = b.claimed in
-        let i = b.instruction in
-        let is : label_rule o levels J label ≡ rule_at o levels J label c i = ap₂ (where_claimed (rule_at o levels J label)) b.has b.fetched in
-        ⊎_elim (λ p. absurd (label_clash o levels bytes J label c i p.0 b.broken))
-        (λ p. let same : rule_at o levels J label c i ≡ number = label_breaks_one o levels J label c i p.0 b.broken in (is ∙ same, λ z. p.1 (same ∙ z)))
-        (label_judged o levels J label c i)
+    module _ {number label : ℕ} where
+      label_broken : BreaksAt J (LabelKept o levels J) (LabelBreaks o levels J) number label → (label_rule o levels J label ≡ number) × (number ≢ 0)
+      label_broken b =
+          let c = b.claimed in
+          let i = b.instruction in
+          let is : label_rule o levels J label ≡ rule_at o levels J label c i = ap₂ (where_claimed (rule_at o levels J label)) b.has b.fetched in
+          ⊎_elim (λ p. absurd (label_clash o levels bytes J label c i p.0 b.broken))
+          (λ p. let same = label_breaks_one o levels J label c i p.0 b.broken in (is ∙ same, λ z. p.1 (same ∙ z)))
+          (label_judged o levels J label c i)
 
-    branch_broken : {number label : ℕ} → BreaksAt J (BranchKept o J) (BranchBreaks o J) number label → (branch_rule o J label ≡ number) × (number ≢ 0)
-    branch_broken {number} {label} b =
-        let c = b.claimed in
-        let i = b.instruction in
-        let is : branch_rule o J label ≡ branch_at o J label c i = ap₂ (where_claimed (branch_at o J label)) b.has b.fetched in
-        ⊎_elim (λ p. absurd (branch_clash o levels bytes J label c i p.0 b.broken))
-        (λ p. let same : branch_at o J label c i ≡ number = branch_breaks_one o levels J label c i p.0 b.broken in (is ∙ same, λ z. p.1 (same ∙ z)))
-        (branch_judged o J label c (few o levels bytes s opened) i)
+      branch_broken : BreaksAt J (BranchKept o J) (BranchBreaks o J) number label → (branch_rule o J label ≡ number) × (number ≢ 0)
+      branch_broken b =
+          let c = b.claimed in
+          let i = b.instruction in
+          let is : branch_rule o J label ≡ branch_at o J label c i = ap₂ (where_claimed (branch_at o J label)) b.has b.fetched in
+          ⊎_elim (λ p. absurd (branch_clash o levels bytes J label c i p.0 b.broken))
+          (λ p. let same = branch_breaks_one o levels J label c i p.0 b.broken in (is ∙ same, λ z. p.1 (same ∙ z)))
+          (branch_judged o J label c (few o levels bytes s opened) i)
 
-    -- what comes first where the opening, the records and then the entry are as they should be
-    verdict_is : verdict o levels bytes ≡ first_of (records_verdict o bytes s) (rules_verdict o levels J)
+    -- the verdict is what comes first of the rules that are left
+    verdict_is : verdict o levels bytes ≡ first_of R V
     verdict_is = ap (sized_verdict o levels bytes) opened
 
-    by_records : (number label : ℕ) → records_verdict o bytes s ≡ (number, label) → number ≢ 0 → verdict o levels bytes ≡ (number, label)
-    by_records number label e some =
-        verdict_is ∙ first_when_some (records_verdict o bytes s) (rules_verdict o levels J) (λ z. some (ap (λ v. v.0) (sym e) ∙ z)) ∙ e
+    past_instructions : Below s.instructions (Says bytes s) → R ≡ C
+    past_instructions k = first_when_zero I C (ap (λ v. v.0) (none_below (instruction_rule bytes s) s.instructions (λ l w. says_kept l (k l w))))
 
-    says_all : Below s.instructions (Says bytes s) → first_below (instruction_rule bytes s) s.instructions ≡ (0, 0)
-    says_all k = none_below (instruction_rule bytes s) s.instructions (λ l w. instruction_kept l (k l w))
-
-    past_instructions : Below s.instructions (Says bytes s) → records_verdict o bytes s ≡ first_below (claim_rule o bytes s) s.instructions
-    past_instructions k =
-        first_when_zero (first_below (instruction_rule bytes s) s.instructions) (first_below (claim_rule o bytes s) s.instructions) (ap (λ v. v.0) (says_all k))
-
-    past_records : Decodes o bytes s → verdict o levels bytes ≡ rules_verdict o levels J
+    past_records : Decodes o bytes s → verdict o levels bytes ≡ V
     past_records d =
-        let none : records_verdict o bytes s ≡ (0, 0) = past_instructions d.instructions ∙ none_below (claim_rule o bytes s) s.instructions (λ l w. claim_kept l (d.claims l w)) in
-        verdict_is ∙ first_when_zero (records_verdict o bytes s) (rules_verdict o levels J) (ap (λ v. v.0) none)
+        let none = none_below (claim_rule o bytes s) s.instructions (λ l w. like_kept l (d.claims l w)) in
+        verdict_is ∙ first_when_zero R V (ap (λ v. v.0) (past_instructions d.instructions ∙ none))
 
-    past_entry : Decodes o bytes s → BeginsEmpty J → verdict o levels bytes ≡ first_of (first_below (label_rule o levels J) (exit J)) (first_below (branch_rule o J) (exit J))
-    past_entry d k =
-        past_records d ∙ first_when_zero (entry_rule J, 0) (first_of (first_below (label_rule o levels J) (exit J)) (first_below (branch_rule o J) (exit J))) (entry_kept k)
+    past_entry : Decodes o bytes s → BeginsEmpty J → verdict o levels bytes ≡ first_of L B
+    past_entry d k = past_records d ∙ first_when_zero (entry_rule J, 0) (first_of L B) (entry_kept k)
+
+    -- a rule that breaks comes first of those that are left
+    comes_first : (v w : ℕ × ℕ) (number label : ℕ) → v ≡ (number, label) → number ≢ 0 → first_of v w ≡ (number, label)
+    comes_first v w number label e some = first_when_some v w (λ z. some (ap (λ u. u.0) (sym e) ∙ z)) ∙ e
+
+    module _ (l : ℕ) (within : l < s.instructions) where
+      by_instruction : Below l (Says bytes s) → (Says bytes s l → ⊥) → verdict o levels bytes ≡ (8, l)
+      by_instruction before f =
+          let first = is_first (instruction_rule bytes s) l s.instructions 8 within (λ k w. says_kept k (before k w)) (says_broken l f) (λ z. omega arith) in
+          verdict_is ∙ comes_first R V 8 l (comes_first I C 8 l first (λ z. omega arith)) (λ z. omega arith)
+
+      by_claim : Below s.instructions (Says bytes s) → Below l (LikeAClaim o bytes s) → (LikeAClaim o bytes s l → ⊥) → verdict o levels bytes ≡ (9, l)
+      by_claim all before f =
+          let first = is_first (claim_rule o bytes s) l s.instructions 9 within (λ k w. like_kept k (before k w)) (like_broken l f) (λ z. omega arith) in
+          verdict_is ∙ comes_first R V 9 l (past_instructions all ∙ first) (λ z. omega arith)
+
+    by_entry : Decodes o bytes s → (BeginsEmpty J → ⊥) → verdict o levels bytes ≡ (10, 0)
+    by_entry d f =
+        past_records d ∙ comes_first (entry_rule J, 0) (first_of L B) 10 0 (ap (λ k. (k, 0)) (entry_broken f)) (λ z. omega arith)
+
+    abbrev LabelsKept : Type 0
+    LabelsKept = Below (exit J) (WhereClaimed J (LabelKept o levels J))
+
+    module _ (number label : ℕ) (d : Decodes o bytes s) (begins : BeginsEmpty J) where
+      by_label : BreaksAt J (LabelKept o levels J) (LabelBreaks o levels J) number label → verdict o levels bytes ≡ (number, label)
+      by_label b =
+          let broken = label_broken b in
+          let first = is_first (label_rule o levels J) label (exit J) number b.within (λ l w. label_kept l (b.before l w)) broken.0 broken.1 in
+          past_entry d begins ∙ comes_first L B number label first broken.1
+
+      by_branch : LabelsKept → BreaksAt J (BranchKept o J) (BranchBreaks o J) number label → verdict o levels bytes ≡ (number, label)
+      by_branch kept b =
+          let broken = branch_broken b in
+          let none = none_below (label_rule o levels J) (exit J) (λ l w. label_kept l (kept l w)) in
+          let first = is_first (branch_rule o J) label (exit J) number b.within (λ l w. branch_kept l (b.before l w)) broken.0 broken.1 in
+          past_entry d begins ∙ first_when_zero L B (ap (λ v. v.0) none) ∙ first
 
   named : {a m : ℕ} → FirstBroken o levels bytes a m → verdict o levels bytes ≡ (a, m)
   named (unopened e) = ap (sized_verdict o levels bytes) e
-  named (instruction {s = s} {label = label} e within before broken) =
-      let first = is_first (instruction_rule bytes s) label s.instructions 8 within (λ l w. instruction_kept s e l (before l w)) (instruction_broken s e label broken) (λ z. omega arith) in
-      by_records s e 8 label
-      (first_when_some (first_below (instruction_rule bytes s) s.instructions) (first_below (claim_rule o bytes s) s.instructions) (λ z. omega (arith, ap (λ v. v.0) first)) ∙ first)
-      (λ z. omega arith)
-  named (claim {s = s} {label = label} e all within before broken) =
-      by_records s e 9 label
-      (past_instructions s e all ∙ is_first (claim_rule o bytes s) label s.instructions 9 within (λ l w. claim_kept s e l (before l w)) (claim_broken s e label broken) (λ z. omega arith))
-      (λ z. omega arith)
-  named (entry {s = s} d broken) =
-      let J = job_in bytes s in
-      let ten = entry_broken s d.opened broken in
-      past_records s d.opened d
-      ∙ first_when_some (entry_rule J, 0) (first_of (first_below (label_rule o levels J) (exit J)) (first_below (branch_rule o J) (exit J))) (λ z. omega (arith, ten))
-      ∙ ap (λ k. (k, 0)) ten
-  named (at_label {s = s} {number = number} {label = label} d begins b) =
-      let J = job_in bytes s in
-      let broken = label_broken s d.opened b in
-      let first = is_first (label_rule o levels J) label (exit J) number b.within (λ l w. label_kept s d.opened l (b.before l w)) broken.0 broken.1 in
-      past_entry s d.opened d begins
-      ∙ first_when_some (first_below (label_rule o levels J) (exit J)) (first_below (branch_rule o J) (exit J)) (λ z. broken.1 (ap (λ v. v.0) (sym first) ∙ z))
-      ∙ first
-  named (at_branch {s = s} {number = number} {label = label} d begins kept b) =
-      let J = job_in bytes s in
-      let broken = branch_broken s d.opened b in
-      let none = none_below (label_rule o levels J) (exit J) (λ l w. label_kept s d.opened l (kept l w)) in
-      past_entry s d.opened d begins
-      ∙ first_when_zero (first_below (label_rule o levels J) (exit J)) (first_below (branch_rule o J) (exit J)) (ap (λ v. v.0) none)
-      ∙ is_first (branch_rule o J) label (exit J) number b.within (λ l w. branch_kept s d.opened l (b.before l w)) broken.0 broken.1
+  named (instruction {s = s} {label = l} e within before f) = by_instruction s e l within before f
+  named (claim {s = s} {label = l} e all within before f) = by_claim s e l within all before f
+  named (entry {s = s} d f) = by_entry s d.opened d f
+  named (at_label {s = s} {number = k} {label = l} d begins b) = by_label s d.opened k l d begins b
+  named (at_branch {s = s} {number = k} {label = l} d begins kept b) = by_branch s d.opened k l d begins kept b
 
 -- The verdict names the first broken rule.
 pub broken_is_the_verdict : (o : Order) (levels bytes : List ℕ) (a m : ℕ) → FirstBroken o levels bytes a m → verdict o levels bytes ≡ (a, m)
