@@ -11,22 +11,30 @@ use push::{Instruction, VARIABLES};
 fn decoded(exit: u8, operation: u8, junction: u8, operand: i32) -> Option<Instruction>
     ensures { result ≡ decoded exit operation junction operand }
 {
-    let number = u8::try_from(operand).ok();
-    let variable = number.filter(|number| usize::from(*number) < VARIABLES);
-    let label = number.filter(|number| *number <= exit);
+    let variables = 0..VARIABLES as i32;
+    let labels = 0..=i32::from(exit);
     // The format's numbers are told apart here alone. A number by itself is no kind: what stands beside it has to fit.
-    match (operation, junction, operand) {
-        (1, 0, _) => variable.map(Instruction::Load),
-        (2, 0, _) => variable.map(Instruction::Store),
-        (3, 0, _) => Some(Instruction::Push(operand)),
-        (4, 0, 0) => Some(Instruction::Add),
-        (5, 0, 0) => Some(Instruction::Sub),
-        (6, 0, 0) => Some(Instruction::Eq),
-        (7, 0, 0) => Some(Instruction::Less),
-        (8, 0, 0) => Some(Instruction::Not),
-        (9, 0, _) => label.map(Instruction::Goto),
-        (10, _, _) if junction <= exit => {
-            label.map(|target| Instruction::GotoF { target, junction })
+    match operation {
+        1 if junction == 0 && variables.contains(&operand) => {
+            Some(Instruction::Load(operand as u8))
+        }
+        2 if junction == 0 && variables.contains(&operand) => {
+            Some(Instruction::Store(operand as u8))
+        }
+        3 if junction == 0 => Some(Instruction::Push(operand)),
+        4 if junction == 0 && operand == 0 => Some(Instruction::Add),
+        5 if junction == 0 && operand == 0 => Some(Instruction::Sub),
+        6 if junction == 0 && operand == 0 => Some(Instruction::Eq),
+        7 if junction == 0 && operand == 0 => Some(Instruction::Less),
+        8 if junction == 0 && operand == 0 => Some(Instruction::Not),
+        9 if junction == 0 && labels.contains(&operand) => {
+            Some(Instruction::Goto(operand as u8))
+        }
+        10 if junction <= exit && labels.contains(&operand) => {
+            Some(Instruction::GotoF {
+                target: operand as u8,
+                junction,
+            })
         }
         _ => None,
     }
