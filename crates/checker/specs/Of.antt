@@ -20,7 +20,7 @@ job_of r = claimed_job r.program.now r.job.bytes.now (sizes r.job)
 
 -- What a claimed label claims, and what leaves it.
 abbrev pub says : {L : Type 0} → Leaving L → Claimed
-says l = claim_says l.claim
+says l = claim_says l.rules.now.job l.claim
 
 abbrev pub leaves_of : {L : Type 0} → Order → Leaving L → List Place
 leaves_of o l = leaves o (levels_of l.rules.now) (says l) l.instruction

@@ -77,7 +77,7 @@ impl<L: Lattice> Rules<'_, L> {
             return Ok(());
         };
         self.check_region(&Region {
-            guard: claim.place(0).level(),
+            guard: self.job.stack_place(claim, 0).level(),
             marks: Marks::region(self.program, junction, label),
         })
     }

@@ -17,7 +17,7 @@ use push::{Instruction, Kind, STACK_PLACES};
 #[derive(Drop)]
 pub(crate) struct Leaving<'a, L> {
     pub(crate) rules: &'a Rules<'a, L>,
-    pub(crate) claim: Claim<'a>,
+    pub(crate) claim: Claim,
     pub(crate) instruction: Instruction,
 }
 
@@ -33,20 +33,26 @@ impl<L: Lattice> Leaving<'_, L> {
             .unwrap_or(0)
     }
 
-    // The level of a claimed stack place, the top being 0.
+    // A claimed stack place, the top being 0; an integer of level 0 below the bottom.
+    fn claimed_place(&self, place: u16) -> Place
+        ensures { result ≡ slice_index_or (says self.now).stack place (IntegerAt 0) }
+    {
+        self.rules.job.stack_place(self.claim, place)
+    }
+
+    // The level of a claimed stack place.
     fn level_at(&self, place: u16) -> u16
         ensures { result ≡ level_at (says self.now).stack place }
     {
-        self.claim.place(place).level()
+        self.claimed_place(place).level()
     }
 
     // The level of a result of one operand.
     fn joined_one(&self) -> u16
         ensures { result ≡ joined_one_of (L.Lattice.order self.now.rules.now.lattice.now) (says self.now) }
     {
-        self.rules
-            .lattice
-            .join(self.level_at(0), self.claim.surrounding)
+        let operand = self.level_at(0);
+        self.rules.lattice.join(operand, self.claim.surrounding)
     }
 
     // The level of a result of two operands.
@@ -63,11 +69,9 @@ impl<L: Lattice> Leaving<'_, L> {
     {
         match self.instruction {
             Instruction::Load(variable) => {
-                let level = self
-                    .rules
-                    .lattice
-                    .join(self.variable_level(variable), self.claim.surrounding);
-                Some(Place::IntegerAt(level))
+                let level = self.variable_level(variable);
+                let joined = self.rules.lattice.join(level, self.claim.surrounding);
+                Some(Place::IntegerAt(joined))
             }
             Instruction::Push(_) => Some(Place::IntegerAt(self.claim.surrounding)),
             Instruction::Add | Instruction::Sub => Some(Place::IntegerAt(self.joined_two())),
@@ -113,7 +117,7 @@ impl<L: Lattice> Leaving<'_, L> {
             (None, _) => place,
         };
         let at = below + self.instruction.popped();
-        self.raised(self.claim.place(at))
+        self.raised(self.claimed_place(at))
     }
 
     // Whether a leaving place has the claimed kind, and a level at most the claimed one.
@@ -126,11 +130,14 @@ impl<L: Lattice> Leaving<'_, L> {
 
     // Whether all that leaves fits under a claimed stack.
     fn all_fit_under(&self, next: Claim) -> bool
-        ensures { result ≡ all_fit_under (L.Lattice.order self.now.rules.now.lattice.now) (leaves_of (L.Lattice.order self.now.rules.now.lattice.now) self.now) (claim_says next.entry).stack }
+        ensures { result ≡ all_fit_under (L.Lattice.order self.now.rules.now.lattice.now) (leaves_of (L.Lattice.order self.now.rules.now.lattice.now) self.now) (claim_says self.now.rules.now.job next).stack }
     {
         let depth = self.depth();
         depth == u16::from(next.depth)
-            && (0..depth).all(|place| self.fits_under(self.place(place), next.place(place)))
+            && (0..depth).all(|place| self.fits_under(
+                self.place(place),
+                self.rules.job.stack_place(next, place),
+            ))
     }
 
     // Whether the claimed stack begins with places of these kinds.
@@ -142,7 +149,7 @@ impl<L: Lattice> Leaving<'_, L> {
             && kinds
                 .iter()
                 .zip(0..depth)
-                .all(|(kind, place)| *kind == self.claim.place(place).kind())
+                .all(|(kind, place)| *kind == self.claimed_place(place).kind())
     }
 
     // Whether a stack of the claimed depth and kinds does not fault.
@@ -158,9 +165,8 @@ impl<L: Lattice> Leaving<'_, L> {
     {
         match self.instruction {
             Instruction::Store(variable) => {
-                self.rules
-                    .lattice
-                    .at_most(self.joined_one(), self.variable_level(variable))
+                let level = self.variable_level(variable);
+                self.rules.lattice.at_most(self.joined_one(), level)
             }
             _ => true,
         }

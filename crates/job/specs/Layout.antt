@@ -34,5 +34,9 @@ claim_length s = 4 + 3 * s.places
 abbrev pub claim_place : Sizes → ℕ → ℕ
 claim_place s label = 4 + 6 * s.instructions + label * claim_length s
 
+-- The claim record that stands at a byte place, as far as there are bytes.
+abbrev pub record_at : List ℕ → Sizes → ℕ → List ℕ
+record_at bytes s place = take (claim_length s) (drop place bytes)
+
 abbrev pub claim_record : List ℕ → Sizes → ℕ → List ℕ
-claim_record bytes s label = take (claim_length s) (drop (claim_place s label) bytes)
+claim_record bytes s label = record_at bytes s (claim_place s label)

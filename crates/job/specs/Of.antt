@@ -3,7 +3,7 @@ use Rattle.std.specs.Prelude.{Some, None, Ok, Err, Option, Result}
 use Rattle.job.specs.declared.fault.ReadFault.{ReadFault}
 use Rattle.job.specs.declared.claim.Claim.{Claim}
 use Rattle.job.specs.declared.reader.Job.{Job}
-use Rattle.job.specs.Layout.{Sizes}
+use Rattle.job.specs.Layout.{Sizes, record_at}
 use Rattle.job.specs.Records.{Claimed, stack_in}
 
 abbrev pub sizes : Job → Sizes
@@ -13,10 +13,10 @@ abbrev pub sizes_read : Result Job ReadFault → Result Sizes ReadFault
 sizes_read (Ok j) = Ok (sizes j)
 sizes_read (Err fault) = Err fault
 
--- What a claim says.
-abbrev pub claim_says : Claim → Claimed
-claim_says c = record { surrounding = c.surrounding; stack = stack_in c.record.now c.depth }
+-- What a claim says in a job, where its record stands.
+abbrev pub claim_says : Job → Claim → Claimed
+claim_says j c = record { surrounding = c.surrounding; stack = stack_in (record_at j.bytes.now (sizes j) c.record_place) c.depth }
 
-abbrev pub claimed : Option Claim → Option Claimed
-claimed None = None
-claimed (Some c) = Some (claim_says c)
+abbrev pub claimed : Job → Option Claim → Option Claimed
+claimed j None = None
+claimed j (Some c) = Some (claim_says j c)

@@ -1,6 +1,6 @@
-ghost use Rattle.std.specs.Prelude.{◌≡◌, ◌+◌, ◌*◌, cond, slice_index, slice_index_or};
+ghost use Rattle.std.specs.Prelude.{◌≡◌, IfSome, ◌+◌, ◌*◌, cond, slice_index, slice_index_or};
 ghost use Rattle.job.specs.Faults.{record_answer};
-ghost use Rattle.job.specs.Layout.{claim_record};
+ghost use Rattle.job.specs.Layout.{claim_place, claim_record};
 ghost use Rattle.job.specs.Records.{all_below, two, like_a_place, like_a_claim, claim_in, place_in, kind as kind_of, level as level_of};
 ghost use Rattle.job.specs.declared.claim.Place.TheVariants.{IntegerAt};
 ghost use Rattle.job.specs.Of.{sizes, claim_says, claimed};
@@ -10,12 +10,15 @@ use crate::part::{byte, tail, two, zeros};
 use crate::reader::Job;
 use push::Kind;
 
-// What a label claims: the depth of its stack, the level that surrounds it, and the record that holds its places.
-#[derive(Clone, Copy)]
-pub struct Claim<'a> {
+/// What a label claims. The places of its stack are asked of its job, by `Job::stack_place`.
+#[derive(Clone, Copy, PartialEq, Eq, Debug)]
+pub struct Claim {
+    /// How many places its stack has; in a checked record at most 8.
     pub depth: u8,
+    /// The level that surrounds it.
     pub surrounding: u16,
-    pub record: &'a [u8],
+    /// The byte of the job at which its record begins.
+    pub record_place: usize,
 }
 
 // A claimed stack place: a kind and a level.
@@ -95,20 +98,7 @@ fn is_claim(span: u32, places: u8, record: &[u8]) -> bool
     }
 }
 
-impl Claim<'_> {
-    // A stack place, the top being 0; an integer of level 0 below the bottom.
-    pub fn place(&self, place: u16) -> Place
-        ensures { result ≡ slice_index_or (claim_says self.now).stack place (IntegerAt 0) }
-    {
-        if place < u16::from(self.depth) {
-            place_in(self.record, place)
-        } else {
-            Place::IntegerAt(0)
-        }
-    }
-}
-
-impl<'a> Job<'a> {
+impl Job<'_> {
     // Sees that a claim record is like its description, over a lattice of so many levels.
     pub fn check_claim_record(&self, span: u32, label: u16) -> Result<(), RecordFault>
         ensures { record_answer result ≡ cond (like_a_claim span (sizes self.now).places (claim_record self.now.bytes.now (sizes self.now) label)) 0 9 }
@@ -121,18 +111,31 @@ impl<'a> Job<'a> {
         }
     }
 
-    // The claim of a label, if it has one.
-    pub fn claim(&self, label: u16) -> Option<Claim<'a>>
-        ensures { claimed result ≡ claim_in (claim_record self.now.bytes.now (sizes self.now) label) }
+    /// The claim of a label, if it has one.
+    pub fn claim(&self, label: u16) -> Option<Claim>
+        ensures claim { claimed self.now result ≡ claim_in (claim_record self.now.bytes.now (sizes self.now) label) }
+        ensures record_place { IfSome result (λ c. c.record_place ≡ claim_place (sizes self.now) label) }
     {
-        let (_, record) = self.claim_record(label);
+        let (record_place, record) = self.claim_record(label);
         match byte(record, 0) {
             0 => None,
             _ => Some(Claim {
                 depth: byte(record, 1),
                 surrounding: two(record, 2),
-                record,
+                record_place,
             }),
+        }
+    }
+
+    /// A stack place of a claim of this job, the top being 0; an integer of level 0 at the claim's depth and past it.
+    #[tactic(auto, using(crate::proofs::Stacks::stack_within, crate::proofs::Stacks::stack_past))]
+    pub fn stack_place(&self, claim: Claim, place: u16) -> Place
+        ensures { result ≡ slice_index_or (claim_says self.now claim).stack place (IntegerAt 0) }
+    {
+        if place < u16::from(claim.depth) {
+            place_in(self.record_at(claim.record_place), place)
+        } else {
+            Place::IntegerAt(0)
         }
     }
 }

@@ -1,5 +1,5 @@
 ghost use Rattle.std.specs.Prelude.{◌≡◌, ◌<◌, IfOk};
-ghost use Rattle.job.specs.Layout.{opening, instruction_place, instruction_record, claim_place, claim_record};
+ghost use Rattle.job.specs.Layout.{opening, instruction_place, instruction_record, claim_length, claim_place, claim_record, record_at};
 ghost use Rattle.job.specs.Of.{sizes, sizes_read};
 
 use crate::fault::ReadFault;
@@ -63,8 +63,22 @@ impl<'a> Job<'a> {
         ensures place { result.0 ≡ claim_place (sizes self.now) label }
         ensures bytes { result.1.now ≡ claim_record self.now.bytes.now (sizes self.now) label }
     {
-        let len = 4 + 3 * usize::from(self.places);
-        let at = 4 + 6 * usize::from(self.instructions) + usize::from(label) * len;
-        (at, part(self.bytes, at, len))
+        let at = 4 + 6 * usize::from(self.instructions) + usize::from(label) * self.claim_length();
+        (at, self.record_at(at))
+    }
+
+    // The bytes of a claim record.
+    fn claim_length(&self) -> usize
+        ensures value { result ≡ claim_length (sizes self.now) }
+        ensures bound { result < 1024 }
+    {
+        4 + 3 * usize::from(self.places)
+    }
+
+    // The claim record that stands at a byte place.
+    pub(crate) fn record_at(&self, place: usize) -> &'a [u8]
+        ensures { result.now ≡ record_at self.now.bytes.now (sizes self.now) place }
+    {
+        part(self.bytes, place, self.claim_length())
     }
 }

@@ -4,7 +4,7 @@ use Rattle.std.proofs.lemmas.Iterator.{YieldsList-from_slice, YieldsList-from_ra
 use Rattle.std.proofs.lemmas.Iterator.Search.{all_from_yields_List}
 use Rattle.push.proofs.KindFacts.{eq_is_same_kind}
 use Rattle.job.specs.declared.claim.Place.TheVariants.{IntegerAt}
-use Rattle.job.proofs.Stacks.{stack_length}
+use Rattle.job.proofs.Stacks.{depth_said}
 use Rattle.checker.specs.Of.{says}
 use Rattle.checker.proofs.KindFacts.{has_kind, begins_at, too_many}
 use Rattle.checker.proofs.leaving.Leaving.begins.Goals as goal
@@ -15,7 +15,7 @@ returns-then-kinds-from g c =
     let stack = (says self).stack in
     let ks = c.args.kinds.now in
     let depth = c.from-depth.result in
-    let deep = stack_length self.claim.record.now self.claim.depth in
+    let deep = depth_said self.rules.now.job self.claim in
     all_from_yields_List (has_kind stack (IntegerAt 0)) c.all.new.self _ c.all.result c.all.ensures.ran
     (YieldsList-from_zip (YieldsList-from_slice ks cc) (YieldsList-from_range 0 depth depth (cc) (omega arith)))
     (λ x b q k. search (rules, tests, eq_is_same_kind))
@@ -25,6 +25,6 @@ pub returns-else-kinds-from : goal.returns-else-kinds-from
 returns-else-kinds-from g c =
     let self = c.args.self.now in
     let ks = c.args.kinds.now in
-    let deep = stack_length self.claim.record.now self.claim.depth in
+    let deep = depth_said self.rules.now.job self.claim in
     lt-leb (length ks) c.from.result c.if-kinds-from.false
     ∙ sym (too_many ks (says self).stack (omega (arith, deep, c.from-depth.ensures, c.from.ensures)))

@@ -1,7 +1,7 @@
 use Rattle.std.proofs.Common.{is_some, ap, arith}
 use mir.Val.{bool_byte}
 use Rattle.push.specs.Language.{pushes}
-use Rattle.job.proofs.Stacks.{stack_length}
+use Rattle.job.proofs.Stacks.{depth_said}
 use Rattle.checker.specs.Of.{says}
 use Rattle.checker.proofs.LeavingFacts.{leaves_length, one_if_some}
 use Rattle.checker.proofs.leaving.Leaving.depth.Goals as goal
@@ -10,6 +10,6 @@ pub returns-clause-value : goal.returns-clause-value
 returns-clause-value g c =
     let self = c.args.self.now in
     let all = leaves_length (g.L.Lattice.order self.rules.now.lattice.now) self.rules.now.levels.now (says self) self.instruction in
-    let deep = stack_length self.claim.record.now self.claim.depth in
+    let deep = depth_said self.rules.now.job self.claim in
     let one = one_if_some (pushes self.instruction) in
     omega (arith, all, deep, one, ap (λ p. bool_byte (is_some p)) c.pushes.ensures, ap bool_byte c.is_some.ensures)
