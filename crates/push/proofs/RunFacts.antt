@@ -1,12 +1,13 @@
 -- The run of a budget, step by step, and what it promises of whole runs. Assumes nothing.
-use Rattle.std.proofs.Common.{◌≡◌, ℕ, zero, suc, ◌+◌, ◌-◌, ◌<◌, Bool, true, false, cond, eqb, List, [], length, Some, None, Option, sym, refl, ap, ◌∙◌, subst, arith}
-use Rattle.std.proofs.lemmas.Bool.{true≢false, false≢true, eqb-true}
+use Rattle.std.proofs.Common.{◌≡◌, ℕ, zero, suc, ◌+◌, ◌-◌, ◌<◌, Bool, true, false, cond, ◌&&◌, eqb, ltb, List, [], length, Some, None, Option, sym, refl, ap, ◌∙◌, subst, arith}
+use Rattle.std.proofs.lemmas.Bool.{true≢false, false≢true, eqb-true, lt-ltb}
 use Rattle.std.proofs.lemmas.Option.{none-some, slice_get_past}
 use Rattle.push.specs.declared.instruction.Instruction.{Instruction}
 use Rattle.push.specs.Machine.{Machine, at, step, perform, ◌⊢◌⟶◌}
 use Rattle.push.specs.declared.status.Status.{Status}
 use Rattle.push.specs.declared.status.Status.TheVariants.{Going, Halted, Faulted}
-use Rattle.push.specs.Run.{RunState, moved, one, tried, arrived, counted, run, is_going, is_halted, label_of, Steps, none, more, TrueStatus, NewRunsAreTrue, Advanced}
+use Rattle.push.specs.Of.{stepped, settled}
+use Rattle.push.specs.Run.{RunState, one, tried, arrived, counted, run, is_going, is_halted, label_of, Steps, none, more, TrueStatus, NewRunsAreTrue, Advanced}
 use Rattle.push.proofs.StepFacts.{rule_steps, steps_by_rule}
 
 module _ (code : List Instruction) where
@@ -40,52 +41,64 @@ module _ (code : List Instruction) where
   steps_before_exit m n true exit e = absurd (none-some n (sym (no_step_at_exit m (eqb-true (label_of m) (length code) exit)) ∙ e))
   steps_before_exit m n false before e = refl
 
-  -- a turn of the loop that makes a step, and one that makes none
-  pub turn_made : (total : ℕ × RunState) (k left : ℕ) (m n : Machine) → 0 < left → total ≡ counted k (run code left (arrived code m)) → (true, n) ≡ moved m (step code m) → total ≡ counted (k + 1) (run code (left - 1) (arrived code n))
-  turn_made total k left m n some so_far e = by (step code m) refl e
+  -- before the first step there is nothing to settle
+  pub nothing_to_settle : (status : Status) (m : Machine) → (settled 0 Going (code, record { status = status; machine = m })).1 ≡ record { status = status; machine = m }
+  nothing_to_settle Going m = refl
+  nothing_to_settle Halted m = refl
+  nothing_to_settle Faulted m = refl
+
+  -- a turn of the loop that makes a step, and one that makes none: the status is settled where the turns end
+  pub turn_made : (total : ℕ × RunState) (k left : ℕ) (status : Status) (m : Machine) (after : List Instruction × RunState) → 0 < left → total ≡ counted k (run code left (settled k Going (code, record { status = status; machine = m })).1) → (true, after) ≡ stepped (code, record { status = status; machine = m }) (cond (is_going status) (step code m) None) → total ≡ counted (k + 1) (run after.0 (left - 1) (settled (k + 1) Going after).1)
+  turn_made total k left Halted m after some so_far e = absurd (true≢false (ap (λ p. p.0) e))
+  turn_made total k left Faulted m after some so_far e = absurd (true≢false (ap (λ p. p.0) e))
+  turn_made total k left Going m after some so_far e = by (step code m) refl e
     where
+      before : RunState
+      before = (settled k Going (code, record { status = Going; machine = m })).1
+
+      stays_going : (b c : Bool) → c ≡ false → cond (b && c) Halted Going ≡ Going
+      stays_going true c e = ap (λ c. cond c Halted Going) e
+      stays_going false c e = refl
+
       sums : (c : ℕ) → k + (1 + c) ≡ k + 1 + c
       sums c = omega arith
 
-      by : (o : Option Machine) → step code m ≡ o → (true, n) ≡ moved m o → total ≡ counted (k + 1) (run code (left - 1) (arrived code n))
+      by : (o : Option Machine) → step code m ≡ o → (true, after) ≡ stepped (code, record { status = Going; machine = m }) o → total ≡ counted (k + 1) (run after.0 (left - 1) (settled (k + 1) Going after).1)
       by None stuck e = absurd (true≢false (ap (λ p. p.0) e))
       by (Some o) made e =
           let more : left ≡ suc (left - 1) = omega arith in
-          let going : (arrived code m).status ≡ Going = ap (λ b. cond b Halted Going) (steps_before_exit m o (eqb (label_of m) (length code)) refl made) in
-          let turn : one code (arrived code m).status m ≡ (true, arrived code n) = ap (λ s. one code s m) going ∙ ap (tried code m) made ∙ ap (λ p. (true, arrived code p.1)) (sym e) in
-          so_far ∙ ap (counted k) (ap (λ c. run code c (arrived code m)) more ∙ made_one (left - 1) (arrived code m) (arrived code n) turn)
-          ∙ (λ i. (sums (run code (left - 1) (arrived code n)).0 i, (run code (left - 1) (arrived code n)).1))
+          let going : before.status ≡ Going = stays_going (ltb 0 k) (eqb (label_of m) (length code)) (steps_before_exit m o (eqb (label_of m) (length code)) refl made) in
+          let next : arrived code o ≡ (settled (k + 1) Going (code, record { status = Going; machine = o })).1 = ap (λ b. record { status = cond (b && eqb (label_of o) (length code)) Halted Going; machine = o }) (sym (lt-ltb 0 (k + 1) (omega arith))) in
+          let turn : one code before.status m ≡ (true, arrived code o) = ap (λ s. one code s m) going ∙ ap (tried code m) made in
+          so_far ∙ ap (counted k) (ap (λ c. run code c before) more ∙ made_one (left - 1) before (arrived code o) turn)
+          ∙ (λ i. (sums (run code (left - 1) (arrived code o)).0 i, (run code (left - 1) (arrived code o)).1))
+          ∙ ap (λ r. counted (k + 1) (run code (left - 1) r)) next
+          ∙ ap (λ p. counted (k + 1) (run p.1.0 (left - 1) (settled (k + 1) Going p.1).1)) (sym e)
 
-  pub turn_refused : (total : ℕ × RunState) (k left : ℕ) (m n : Machine) → 0 < left → total ≡ counted k (run code left (arrived code m)) → (false, n) ≡ moved m (step code m) → (k, record { status = cond (eqb (label_of n) (length code)) Halted Faulted; machine = n }) ≡ total
-  turn_refused total k left m n some so_far e = by (step code m) refl e
+  ends_there : (total : ℕ × RunState) (k left : ℕ) (r end : RunState) → run code left r ≡ (0, end) → total ≡ counted k (run code left r) → (k, end) ≡ total
+  ends_there total k left r end over so_far = sym (so_far ∙ ap (counted k) over ∙ (λ i. (nothing_more i, end)))
     where
       nothing_more : k + 0 ≡ k
       nothing_more = omega arith
 
-      ends : (b : Bool) → eqb (label_of m) (length code) ≡ b → step code m ≡ None → run code left (arrived code m) ≡ (0, record { status = cond b Halted Faulted; machine = m })
-      ends true exit stuck =
-          let halted : (arrived code m).status ≡ Halted = ap (λ b. cond b Halted Going) exit in
-          run_stopped left (arrived code m) (ap is_going halted) ∙ ap (λ s. (0, record { status = s; machine = m })) halted
-      ends false before stuck =
+  pub turn_refused : (total : ℕ × RunState) (k left : ℕ) (status : Status) (m : Machine) (after : List Instruction × RunState) → 0 < left → total ≡ counted k (run code left (settled k Going (code, record { status = status; machine = m })).1) → (false, after) ≡ stepped (code, record { status = status; machine = m }) (cond (is_going status) (step code m) None) → (k, (settled k Faulted after).1) ≡ total
+  turn_refused total k left Halted m after some so_far e = ap (λ p. (k, (settled k Faulted p.1).1)) e ∙ ends_there total k left _ _ (run_stopped left (record { status = Halted; machine = m }) refl) so_far
+  turn_refused total k left Faulted m after some so_far e = ap (λ p. (k, (settled k Faulted p.1).1)) e ∙ ends_there total k left _ _ (run_stopped left (record { status = Faulted; machine = m }) refl) so_far
+  turn_refused total k left Going m after some so_far e = by (step code m) refl e
+    where
+      ends : (halts : Bool) → step code m ≡ None → run code left (record { status = cond halts Halted Going; machine = m }) ≡ (0, record { status = cond halts Halted Faulted; machine = m })
+      ends true stuck = run_stopped left (record { status = Halted; machine = m }) refl
+      ends false stuck =
           let more : left ≡ suc (left - 1) = omega arith in
-          let going : (arrived code m).status ≡ Going = ap (λ b. cond b Halted Going) before in
-          ap (λ c. run code c (arrived code m)) more ∙ made_none (left - 1) (arrived code m) (record { status = Faulted; machine = m }) (ap (λ s. one code s m) going ∙ ap (tried code m) stuck)
+          ap (λ c. run code c (record { status = Going; machine = m })) more ∙ made_none (left - 1) (record { status = Going; machine = m }) (record { status = Faulted; machine = m }) (ap (tried code m) stuck)
 
-      by : (o : Option Machine) → step code m ≡ o → (false, n) ≡ moved m o → (k, record { status = cond (eqb (label_of n) (length code)) Halted Faulted; machine = n }) ≡ total
-      by None stuck e =
-          let same = ap (λ p. p.1) e in
-          ap (λ o. (k, record { status = cond (eqb (label_of o) (length code)) Halted Faulted; machine = o })) same
-          ∙ sym (so_far ∙ ap (counted k) (ends (eqb (label_of m) (length code)) refl stuck) ∙ (λ i. (nothing_more i, record { status = cond (eqb (label_of m) (length code)) Halted Faulted; machine = m })))
+      by : (o : Option Machine) → step code m ≡ o → (false, after) ≡ stepped (code, record { status = Going; machine = m }) o → (k, (settled k Faulted after).1) ≡ total
+      by None stuck e = ap (λ p. (k, (settled k Faulted p.1).1)) e ∙ ends_there total k left _ _ (ends (ltb 0 k && eqb (label_of m) (length code)) stuck) so_far
       by (Some o) made e = absurd (false≢true (ap (λ p. p.0) e))
 
   -- the budget is used up
-  pub run_over : (total : ℕ × RunState) (k left budget : ℕ) (r : RunState) → k ≡ budget → left ≡ 0 → total ≡ counted k (run code left r) → (budget, r) ≡ total
-  run_over total k left budget r all over so_far =
-      let over_run : run code left r ≡ (0, r) = ap (λ n. run code n r) over ∙ run_none r in
-      sym (so_far ∙ ap (counted k) over_run ∙ (λ i. (counts i, r)))
-    where
-      counts : k + 0 ≡ budget
-      counts = omega arith
+  pub run_over : (total : ℕ × RunState) (k left : ℕ) (r : RunState) → left ≡ 0 → total ≡ counted k (run code left r) → (k, r) ≡ total
+  run_over total k left r over so_far = ends_there total k left r r (ap (λ n. run code n r) over ∙ run_none r) so_far
 
   -- a fault or an exit: what no step leaves
   stopped : (status : Status) (m : Machine) (after : RunState) → one code status m ≡ (false, after) → (is_going after.status ≡ false) × (after.machine ≡ m) × (TrueStatus code (record { status = status; machine = m }) → TrueStatus code after)

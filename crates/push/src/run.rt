@@ -1,28 +1,247 @@
-ghost use Rattle.std.specs.Prelude.{◌≡◌, length, nat_eq};
-ghost use Rattle.push.specs.Run.{is_halted};
+ghost use Rattle.std.specs.Prelude.{◌≡◌, ◌+◌, ◌<◌, ◌≤◌, true, [], ◌∷◌, length, drop, is_some, Some, None, MatchOption};
+ghost use Rattle.push.specs.Machine.{at, pushed, loaded, stored, turned, branched, integers_on, integer_on, flag_on, StepFollowsTheRules};
+ghost use Rattle.push.specs.Run.{begun, run, Advanced, NewRunsAreTrue};
 
 use crate::VARIABLES;
+use crate::instruction::Instruction;
 use crate::program::Program;
 use crate::stack::Stack;
 use crate::status::Status;
+use crate::value::Value;
 
-mod budget;
-mod step;
-
-// A program under way: its status, and what its steps have made of the state.
+/// A program under way: its status, the label of the instruction that comes next, its stack, and the values of the variables.
 #[derive(Drop)]
 pub struct Run {
     program: Program,
     status: Status,
-    state: State,
-    ghost halted_at_the_exit: { is_halted status ≡ nat_eq state.label (length program) },
-}
-
-// What a step reads and changes: where the run stands, its stack, and the values of the variables.
-#[derive(Drop)]
-struct State {
     label: usize,
     stack: Stack,
     values: [i32; VARIABLES],
     ghost values_sized: { length values ≡ 32 },
+}
+
+// That the label is below 128 holds only where it has an instruction, so it is a clause of the calls that a step makes.
+impl Run {
+    ghost use Rattle.push.specs.Of.{run_state, whole, next, stepped, settled};
+
+    /// A run at label 0 with an empty stack, on the values of the variables. Without instructions it has halted.
+    pub fn begin(program: Program, values: [i32; VARIABLES]) -> Self
+        ensures run { run_state result ≡ begun program values }
+        ensures same_program { result.program ≡ program }
+    {
+        let status = if program.len() == 0 {
+            Status::Halted
+        } else {
+            Status::Going
+        };
+        Run {
+            program,
+            status,
+            label: 0,
+            stack: Stack::empty(),
+            values,
+        }
+    }
+
+    /// Makes steps until the run stops or `budget` are made, and answers the status then and how many were made.
+    pub fn advance(&mut self, budget: u32) -> (Status, u32)
+        ensures run { (result.1, run_state self.new) ≡ run self.old.program budget (run_state self.old) }
+        ensures status { result.0 ≡ (run_state self.new).status }
+        ensures same_program { self.new.program ≡ self.old.program }
+        ensures makes_the_machines_steps { Advanced self.old.program budget result.1 (run_state self.old) (run_state self.new) }
+        ensures new_runs_are_true { NewRunsAreTrue }
+        ensures steps_follow_the_rules { StepFollowsTheRules }
+    {
+        let steps = self.steps(budget);
+        (self.status, steps)
+    }
+
+    /// The status, the program and the values that the run leaves.
+    pub fn finish(self) -> (Status, Program, [i32; VARIABLES])
+        ensures { result ≡ (self.status, self.program, self.values) }
+    {
+        let values = self.values;
+        (self.status, self.program, values)
+    }
+
+    // Makes steps until none can be made or so many are made, and answers how many. None of them writes the status, which is
+    // settled where they end: one that a step writes is read again at the next.
+    fn steps(&mut self, budget: u32) -> u32
+        ensures run { (result, run_state self.new) ≡ run self.old.program budget (run_state self.old) }
+        ensures same_program { self.new.program ≡ self.old.program }
+    {
+        for steps in 0..budget {
+            if self.step().is_none() {
+                self.settle(steps, Status::Faulted);
+                return steps;
+            }
+        }
+        self.settle(budget, Status::Going);
+        budget
+    }
+
+    // Where so many steps end, a run that is going becomes halted if they came to the exit, and otherwise what is passed.
+    fn settle(&mut self, steps: u32, otherwise: Status)
+        ensures { whole self.new ≡ settled steps otherwise (whole self.old) }
+    {
+        if self.status == Status::Going {
+            self.status = if steps > 0 && self.label == self.program.len() {
+                Status::Halted
+            } else {
+                otherwise
+            };
+        }
+    }
+
+    // Makes the step that the status and the instruction at the label ask for. None, and nothing changed, where there is none.
+    // The instruction is lent and not copied: of it a step reads what it needs.
+    fn step(&mut self) -> Option<()>
+        ensures { (is_some result, whole self.new) ≡ stepped (whole self.old) (next (whole self.old)) }
+    {
+        match (self.status, self.program.look(self.label)) {
+            (Status::Going, Some(&Instruction::Load(variable))) => self.load(variable),
+            (Status::Going, Some(&Instruction::Store(variable))) => self.store(variable),
+            (Status::Going, Some(&Instruction::Push(number))) => self.push(Value::Int(number)),
+            (Status::Going, Some(Instruction::Add)) => {
+                self.combine(|u, t| Value::Int(u.wrapping_add(t)))
+            }
+            (Status::Going, Some(Instruction::Sub)) => {
+                self.combine(|u, t| Value::Int(u.wrapping_sub(t)))
+            }
+            (Status::Going, Some(Instruction::Eq)) => self.combine(|u, t| Value::Flag(u == t)),
+            (Status::Going, Some(Instruction::Less)) => self.combine(|u, t| Value::Flag(u < t)),
+            (Status::Going, Some(Instruction::Not)) => self.turn(),
+            (Status::Going, Some(&Instruction::Goto(target))) => self.go(usize::from(target)),
+            (Status::Going, Some(&Instruction::GotoF { target, .. })) => self.branch(target),
+            (Status::Going, None) => None,
+            (Status::Halted | Status::Faulted, _) => None,
+        }
+    }
+
+    // Comes to a label.
+    fn go(&mut self, label: usize) -> Option<()>
+        ensures { (is_some result, whole self.new)
+            ≡ stepped (whole self.old) (Some (at label self.old.stack self.old.values)) }
+    {
+        self.label = label;
+        Some(())
+    }
+
+    // Goes on to the next label with a value in place of so many popped ones.
+    fn put(&mut self, popped: usize, value: Value) -> Option<()>
+        requires label { self.old.label < 128 }
+        requires places { (popped ≤ length self.old.stack) × (length self.old.stack < 8 + popped) }
+        ensures { (is_some result, whole self.new)
+            ≡ stepped (whole self.old)
+            (Some (at (self.old.label + 1) (value ∷ drop popped self.old.stack) self.old.values)) }
+    {
+        // The label first: tried after the stack, a step of the nest of branches took a fifth longer.
+        self.label += 1;
+        self.stack.put(popped, value);
+        Some(())
+    }
+
+    // Goes on to the next label with the top popped.
+    fn pop(&mut self) -> Option<()>
+        requires label { self.old.label < 128 }
+        requires place { 1 ≤ length self.old.stack }
+        ensures { (is_some result, whole self.new)
+            ≡ stepped (whole self.old)
+            (Some (at (self.old.label + 1) (drop 1 self.old.stack) self.old.values)) }
+    {
+        self.label += 1;
+        self.stack.pop();
+        Some(())
+    }
+
+    // Pushes a value, where a place is free.
+    fn push(&mut self, value: Value) -> Option<()>
+        requires { self.old.label < 128 }
+        ensures { (is_some result, whole self.new)
+            ≡ stepped (whole self.old)
+            (pushed value self.old.label self.old.stack self.old.values) }
+    {
+        if !self.stack.has_room() {
+            return None;
+        }
+        self.put(0, value)
+    }
+
+    // Pushes a variable.
+    fn load(&mut self, variable: u8) -> Option<()>
+        requires { self.old.label < 128 }
+        ensures { (is_some result, whole self.new)
+            ≡ stepped (whole self.old)
+            (loaded variable self.old.label self.old.stack self.old.values) }
+    {
+        let number = *self.values.get(usize::from(variable))?;
+        self.push(Value::Int(number))
+    }
+
+    // Pops the integer on top into a variable.
+    fn store(&mut self, variable: u8) -> Option<()>
+        requires { self.old.label < 128 }
+        ensures { (is_some result, whole self.new)
+            ≡ stepped (whole self.old)
+            (stored variable (integer_on self.old.stack) self.old.label self.old.stack self.old.values) }
+    {
+        let index = usize::from(variable);
+        let &[Value::Int(number), ..] = self.stack.places() else {
+            return None;
+        };
+        if index >= VARIABLES {
+            return None;
+        }
+        // Not through `get_mut`: of what is written through it a proof knows the length alone.
+        self.values[index] = number;
+        self.pop()
+    }
+
+    // Puts what is made of the integers u and t in their place, where t is on top and u under it.
+    fn combine<F: Fn(i32, i32) -> Value>(&mut self, make: F) -> Option<()>
+        requires label { self.old.label < 128 }
+        requires callable { F.IsAlwaysCallable make }
+        ensures { MatchOption (integers_on self.old.stack)
+            ((is_some result, whole self.new) ≡ stepped (whole self.old) None)
+            (λ p. (v : Value) × F.post make p.0 p.1 v
+            × ((is_some result, whole self.new)
+            ≡ stepped (whole self.old)
+            (Some (at (self.old.label + 1) (v ∷ drop 2 self.old.stack) self.old.values)))) }
+    {
+        let &[Value::Int(t), Value::Int(u), ..] = self.stack.places() else {
+            return None;
+        };
+        self.put(2, make(u, t))
+    }
+
+    // Replaces the boolean on top by its opposite.
+    fn turn(&mut self) -> Option<()>
+        requires { self.old.label < 128 }
+        ensures { (is_some result, whole self.new)
+            ≡ stepped (whole self.old)
+            (turned (flag_on self.old.stack) self.old.label self.old.stack self.old.values) }
+    {
+        let &[Value::Flag(flag), ..] = self.stack.places() else {
+            return None;
+        };
+        self.put(1, Value::Flag(!flag))
+    }
+
+    // Goes to the target where the boolean on top is false.
+    fn branch(&mut self, target: u8) -> Option<()>
+        requires { self.old.label < 128 }
+        ensures { (is_some result, whole self.new)
+            ≡ stepped (whole self.old)
+            (branched target (flag_on self.old.stack) self.old.label self.old.stack self.old.values) }
+    {
+        // Two arms: tried as one choice of a label, a step of the nest of branches took 3 % longer.
+        match self.stack.places() {
+            [Value::Flag(true), ..] => self.pop(),
+            [Value::Flag(false), ..] => {
+                self.stack.pop();
+                self.go(usize::from(target))
+            }
+            _ => None,
+        }
+    }
 }

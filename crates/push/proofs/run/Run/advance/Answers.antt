@@ -1,15 +1,13 @@
-use Rattle.std.proofs.Common.{◌≡◌, sym, arith}
-use Rattle.push.specs.Run.{run}
+use Rattle.std.proofs.Common.{sym}
 use Rattle.push.specs.Of.{run_state}
 use Rattle.push.proofs.StepFacts.{step_follows_the_rules}
-use Rattle.push.proofs.RunFacts.{run_stopped, run_advances}
+use Rattle.push.proofs.RunFacts.{run_advances}
 use Rattle.push.proofs.run.Run.advance.Goals as goal
 
 pub returns-clause-makes_the_machines_steps : goal.returns-clause-makes_the_machines_steps
 returns-clause-makes_the_machines_steps c =
     let before = c.args.self.now in
-    let runs : (c.match-self.steps, run_state c.match-self.self) ≡ run before.program c.args.budget (run_state before) = grind (arith, run_stopped) in
-    rw (sym runs) at (run_advances before.program c.args.budget (run_state before))
+    rw (sym c.steps-steps.ensures.run) at (run_advances before.program c.args.budget (run_state before))
 
 pub returns-clause-steps_follow_the_rules : goal.returns-clause-steps_follow_the_rules
 returns-clause-steps_follow_the_rules c = step_follows_the_rules

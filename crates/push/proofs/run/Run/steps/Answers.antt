@@ -1,0 +1,38 @@
+use Rattle.std.proofs.Common.{◌≡◌, ◌+◌, ◌-◌, true, false, cond, None, sym, ap, ◌∙◌, arith, rules}
+use Rattle.push.specs.declared.status.Status.TheVariants.{Going}
+use Rattle.push.specs.Of.{run_state, whole, next, stepped, settled}
+use Rattle.push.specs.Run.{run}
+use Rattle.push.proofs.RunFacts.{nothing_to_settle, run_over, turn_made, turn_refused}
+use Rattle.push.proofs.run.Run.steps.Goals as goal
+
+pub loop-steps-init : goal.loop-steps-init
+loop-steps-init c =
+    let before = c.args.self.now in
+    let nothing : (settled 0 Going (whole before)).1 ≡ run_state before = nothing_to_settle before.program before.status (run_state before).machine in
+    record { same_program = search rules; so_far = rw nothing (search rules) }
+
+pub returns-then-is_none-clause-run : goal.returns-then-is_none-clause-run
+returns-then-is_none-clause-run c =
+    let before = c.loop-steps.self in
+    let machine = (run_state before).machine in
+    let none : (false, whole c.step.new.self) ≡ stepped (whole before) (next (whole before)) = search rules in
+    ap (λ p. (c.loop-steps.steps, p.1)) c.settle.ensures ∙ turn_refused before.program _ _ _ before.status machine (whole c.step.new.self) (omega arith) c.loop-steps.invariant.so_far none
+
+pub loop-steps-preserved : goal.loop-steps-preserved
+loop-steps-preserved c =
+    let before = c.loop-steps.self in
+    let machine = (run_state before).machine in
+    let made : (true, whole c.step.new.self) ≡ stepped (whole before) (next (whole before)) = search rules in
+    let left : c.args.budget - c.loop-steps.steps - 1 ≡ c.args.budget - (c.loop-steps.steps + 1) = omega arith in
+    record {
+      same_program = ap (λ p. p.1.0) made ∙ c.loop-steps.invariant.same_program;
+      so_far = rw left at (turn_made before.program _ _ _ before.status machine (whole c.step.new.self) (omega arith) c.loop-steps.invariant.so_far made);
+    }
+
+pub returns-clause-run : goal.returns-clause-run
+returns-clause-run c =
+    let before = c.loop-steps.self in
+    let all : c.args.budget ≡ c.loop-steps.steps = omega arith in
+    let settles = (settled c.loop-steps.steps Going (whole before)).1 in
+    ap (λ p. (c.args.budget, p.1)) c.settle-2.ensures ∙ ap (λ n. (n, (settled n Going (whole before)).1)) all
+    ∙ run_over before.program _ c.loop-steps.steps (c.args.budget - c.loop-steps.steps) settles (omega arith) c.loop-steps.invariant.so_far
