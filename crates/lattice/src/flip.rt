@@ -4,17 +4,20 @@ ghost use Rattle.lattice.specs.FlipLaws.{flip_laws};
 
 use crate::lattice::Lattice;
 
-// A lattice upside down.
+/// A lattice upside down.
 #[derive(Clone, Debug, PartialEq, Eq, Drop)]
 pub struct Flip<L> {
     below: L,
 }
 
 impl<L: Lattice> Flip<L> {
+    /// Any lattice, a flip among them: its levels, each at most those that were at most it.
     pub fn new(below: L) -> Self
-        ensures meaning { flip_order (L.Lattice.order result.below) ≡ flip_order (L.Lattice.order below) }
-        ensures span { (flip_order (L.Lattice.order result.below)).span ≡ (L.Lattice.order below).span }
-        ensures at_most { (a b : ℕ) → (flip_order (L.Lattice.order result.below)).at_most a b ≡ (L.Lattice.order below).at_most b a }
+        ensures meaning { ⟦<Flip<L> as Lattice>⟧.order result ≡ flip_order (L.Lattice.order below) }
+        ensures span { (⟦<Flip<L> as Lattice>⟧.order result).span ≡ (L.Lattice.order below).span }
+        ensures at_most { (a b : ℕ) →
+            (⟦<Flip<L> as Lattice>⟧.order result).at_most a b
+            ≡ (L.Lattice.order below).at_most b a }
     {
         Flip { below }
     }

@@ -4,17 +4,19 @@ ghost use Rattle.lattice.specs.LadderLaws.{ladder_laws};
 
 use crate::lattice::Lattice;
 
-// Grades in the order of the numbers.
+/// Grades in the order of the numbers.
 #[derive(Clone, Copy, Debug, PartialEq, Eq)]
 pub struct Ladder {
     grades: u16,
 }
 
 impl Ladder {
+    /// From 0 to 65,535 grades; with none there are no levels.
     pub fn new(grades: u16) -> Self
-        ensures meaning { ladder_order result.grades ≡ ladder_order grades }
-        ensures span { (ladder_order result.grades).span ≡ grades }
-        ensures at_most { (a b : ℕ) → (ladder_order result.grades).at_most a b ≡ (levels grades a b && nat_le a b) }
+        ensures meaning { ⟦<Ladder as Lattice>⟧.order result ≡ ladder_order grades }
+        ensures span { (⟦<Ladder as Lattice>⟧.order result).span ≡ grades }
+        ensures at_most { (a b : ℕ) →
+            (⟦<Ladder as Lattice>⟧.order result).at_most a b ≡ (levels grades a b && nat_le a b) }
     {
         Ladder { grades }
     }

@@ -4,18 +4,20 @@ ghost use Rattle.lattice.specs.OwnersLaws.{owners_laws};
 
 use crate::lattice::Lattice;
 
-// Sets of owners: bit i of a code stands for owner i, and a set is at most each set that holds all its owners.
+/// Sets of owners: bit i of a code stands for owner i, and a set is at most each set that holds all its owners.
 #[derive(Clone, Copy, Debug, PartialEq, Eq)]
 pub struct Owners {
     count: u8,
 }
 
 impl Owners {
-    // With more than 16 owners there are no levels.
+    /// From 0 to 16 owners; with more there are no levels.
     pub fn new(count: u8) -> Self
-        ensures meaning { owners_order result.count ≡ owners_order count }
-        ensures span { (owners_order result.count).span ≡ owners_span count }
-        ensures at_most { (a b : ℕ) → (owners_order result.count).at_most a b ≡ (levels (owners_span count) a b && bit_and a b == a) }
+        ensures meaning { ⟦<Owners as Lattice>⟧.order result ≡ owners_order count }
+        ensures span { (⟦<Owners as Lattice>⟧.order result).span ≡ owners_span count }
+        ensures at_most { (a b : ℕ) →
+            (⟦<Owners as Lattice>⟧.order result).at_most a b
+            ≡ (levels (owners_span count) a b && bit_and a b == a) }
     {
         Owners { count }
     }

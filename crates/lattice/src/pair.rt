@@ -1,10 +1,11 @@
 ghost use Rattle.std.specs.Prelude.{◌≡◌, ℕ, Some, ◌*◌, ◌<◌, ◌≤◌, ◌&&◌, MatchBool, cond, nat_lt};
+ghost use Rattle.lattice.specs.Order.{Order};
 ghost use Rattle.lattice.specs.Kinds.{pair as pair_order, pair_span, pair_at_most, code as code_of, parts_of, PartsAreLevels, KeepsLevels, IsPartByPart, levels};
 ghost use Rattle.lattice.specs.PairLaws.{pair_laws};
 
 use crate::lattice::Lattice;
 
-// Two lattices side by side. A code is first × (span of the second) + second.
+/// Two lattices side by side. A code is first × (span of the second) + second.
 #[derive(Clone, Debug, PartialEq, Eq, Drop)]
 pub struct Pair<A, B> {
     first: A,
@@ -12,11 +13,17 @@ pub struct Pair<A, B> {
 }
 
 impl<A: Lattice, B: Lattice> Pair<A, B> {
-    // Where the product of the spans passes 65,536 there are no levels.
+    /// Any two lattices. Where the product of their spans passes 65,536 there are no levels.
     pub fn new(first: A, second: B) -> Self
-        ensures meaning { pair_order (A.Lattice.order result.first) (B.Lattice.order result.second) ≡ pair_order (A.Lattice.order first) (B.Lattice.order second) }
-        ensures span { (pair_order (A.Lattice.order result.first) (B.Lattice.order result.second)).span ≡ pair_span (A.Lattice.order first) (B.Lattice.order second) }
-        ensures at_most { (a b : ℕ) → (pair_order (A.Lattice.order result.first) (B.Lattice.order result.second)).at_most a b ≡ (levels (pair_span (A.Lattice.order first) (B.Lattice.order second)) a b && pair_at_most (A.Lattice.order first) (B.Lattice.order second) a b) }
+        ensures meaning { ⟦<Pair<A, B> as Lattice>⟧.order result
+            ≡ pair_order (A.Lattice.order first) (B.Lattice.order second) }
+        ensures span { (⟦<Pair<A, B> as Lattice>⟧.order result).span
+            ≡ pair_span (A.Lattice.order first) (B.Lattice.order second) }
+        ensures at_most { let o : Order = A.Lattice.order first in
+            let p : Order = B.Lattice.order second in
+            (a b : ℕ) →
+            (⟦<Pair<A, B> as Lattice>⟧.order result).at_most a b
+            ≡ (levels (pair_span o p) a b && pair_at_most o p a b) }
     {
         Pair { first, second }
     }
