@@ -1,18 +1,17 @@
--- Every worked case computes to its answer. Assumes nothing.
-use mathlib.Core.Path.{◌≡◌, refl}
-use mathlib.Core.List.{List, [], ◌∷◌}
-use Prim.Native.Nat.{ℕ, zero, suc}
-use lib.IntN.{ℤ}
+-- Every worked case computes to its answer; that the empty job has halted is by induction on the budgets. Assumes nothing.
+use Rattle.std.proofs.Common.{◌≡◌, ℕ, zero, suc, ℤ, List, [], ◌∷◌, length, replicate, refl, ap}
 use Rattle.push.specs.Run.{run}
 use Rattle.job.specs.Records.{all_below}
 use Rattle.checker.specs.Region.{spread_below, spread_times}
 use Rattle.checker.specs.Verdict.{first_below, code_below}
-use Rattle.cases.specs.Worked.{WorkedCases, ran}
+use Rattle.cases.specs.Worked.{WorkedCases, advances}
 
-at_once : (values : List ℤ) (budget : ℕ) → (ran (0 ∷ 0 ∷ 0 ∷ 0 ∷ []) values budget).0 ≡ (1, 0)
+-- The empty job has halted when it is started, and no advance changes that.
+stays_halted : (values : List ℤ) (budgets : List ℕ) → advances (0 ∷ 0 ∷ 0 ∷ 0 ∷ []) values budgets ≡ replicate (length budgets) (1, 0)
 unfolding run code_below
-at_once values zero = refl
-at_once values (suc budget) = refl
+stays_halted values [] = refl
+stays_halted values (zero ∷ budgets) = ap (λ answers. (1, 0) ∷ answers) (stays_halted values budgets)
+stays_halted values (suc budget ∷ budgets) = ap (λ answers. (1, 0) ∷ answers) (stays_halted values budgets)
 
 pub rows : WorkedCases
 unfolding all_below spread_below spread_times first_below code_below run
@@ -34,7 +33,7 @@ rows = record {
   job_b_late_junction = refl;
   job_b_early_junction = refl;
   goto_itself_accepted = refl;
-  empty_job_halts_at_once = at_once;
+  empty_job_stays_halted = stays_halted;
   job_b_runs = refl;
   job_b_ends = refl;
   job_b_stores_five = refl;

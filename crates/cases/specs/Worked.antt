@@ -1,5 +1,5 @@
 -- The worked cases of docs/, said of the definitions that the contracts cite. Assumes nothing.
-use Rattle.std.specs.Prelude.{◌≡◌, List, [], ◌∷◌, true, false, ℕ, ℤ, pos, negsuc, get_or, replicate}
+use Rattle.std.specs.Prelude.{◌≡◌, List, [], ◌∷◌, true, false, ℕ, ℤ, pos, negsuc, get_or, length, replicate}
 use Rattle.lattice.specs.Order.{Order}
 use Rattle.lattice.specs.Kinds.{ladder, owners, flip, pair}
 use Rattle.checker.specs.Verdict.{verdict, decoded_code}
@@ -20,6 +20,15 @@ ran job values budget = advance_outcome (started_state (holding job values)) bud
 
 abbrev pub ended : List ℕ → List ℤ → ℕ → ℕ × ReadyState
 ended job values budget = end_outcome (ran job values budget).1
+
+-- What advances answer that are made one after the other, with the budgets of a list: on a running controller, and on
+-- one that has just started a job on some values.
+abbrev pub advances_from : RunningState → List ℕ → List (ℕ × ℕ)
+advances_from s [] = []
+advances_from s (budget ∷ budgets) = (advance_outcome s budget).0 ∷ advances_from (advance_outcome s budget).1 budgets
+
+abbrev pub advances : List ℕ → List ℤ → List ℕ → List (ℕ × ℕ)
+advances job values budgets = advances_from (started_state (holding job values)) budgets
 
 -- v1 as given, the other values 0.
 abbrev pub values_with : ℤ → List ℤ
@@ -48,7 +57,8 @@ pub record WorkedCases : Type 0 where
   pub job_b_early_junction : verdict (ladder 16) (levels_with 0) (job_b 6 3) ≡ (14, 3)
   pub goto_itself_accepted : verdict (ladder 16) (levels_with 0) goto_itself ≡ (0, 0)
   -- runs: status and steps, what end answers, and v2 then
-  pub empty_job_halts_at_once : (values : List ℤ) (budget : ℕ) → (ran (0 ∷ 0 ∷ 0 ∷ 0 ∷ []) values budget).0 ≡ (1, 0)
+  pub empty_job_stays_halted : (values : List ℤ) (budgets : List ℕ) →
+      advances (0 ∷ 0 ∷ 0 ∷ 0 ∷ []) values budgets ≡ replicate (length budgets) (1, 0)
   pub job_b_runs : (ran (job_b 7 3) (values_with (pos 0)) 100).0 ≡ (1, 7)
   pub job_b_ends : (ended (job_b 7 3) (values_with (pos 0)) 100).0 ≡ 1
   pub job_b_stores_five : get_or (ended (job_b 7 3) (values_with (pos 0)) 100).1.values 2 (pos 0) ≡ pos 5
