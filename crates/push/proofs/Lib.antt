@@ -1,3 +1,4 @@
 pub mod KindFacts
 pub mod StepFacts
 pub mod RunFacts
+pub mod AdvanceFacts

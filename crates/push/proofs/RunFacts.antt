@@ -15,11 +15,11 @@ module _ (code : List Instruction) where
   unfolding run
   run_none r = refl
 
-  made_one : (k : ℕ) (r after : RunState) → one code r.status r.machine ≡ (true, after) → run code (suc k) r ≡ counted 1 (run code k after)
+  pub made_one : (k : ℕ) (r after : RunState) → one code r.status r.machine ≡ (true, after) → run code (suc k) r ≡ counted 1 (run code k after)
   unfolding run
   made_one k r after e = ap (λ (p : Bool × RunState). cond p.0 (counted 1 (run code k p.1)) (0, p.1)) e
 
-  made_none : (k : ℕ) (r after : RunState) → one code r.status r.machine ≡ (false, after) → run code (suc k) r ≡ (0, after)
+  pub made_none : (k : ℕ) (r after : RunState) → one code r.status r.machine ≡ (false, after) → run code (suc k) r ≡ (0, after)
   unfolding run
   made_none k r after e = ap (λ (p : Bool × RunState). cond p.0 (counted 1 (run code k p.1)) (0, p.1)) e
 
@@ -34,7 +34,7 @@ module _ (code : List Instruction) where
   run_stopped (suc k) r e = made_none k r r (stays r.status r.machine e)
 
   -- at the exit there is no step
-  no_step_at_exit : (m : Machine) → label_of m ≡ length code → step code m ≡ None
+  pub no_step_at_exit : (m : Machine) → label_of m ≡ length code → step code m ≡ None
   no_step_at_exit (at l s vs) exit = ap (λ o. perform o l s vs) (slice_get_past code l (omega (arith, exit)))
 
   steps_before_exit : (m n : Machine) (b : Bool) → eqb (label_of m) (length code) ≡ b → step code m ≡ Some n → b ≡ false
@@ -118,7 +118,7 @@ module _ (code : List Instruction) where
           )
       by_step (Some n) made e = absurd (true≢false (ap (λ p. p.0) e))
 
-  arrived_true : (n : Machine) → TrueStatus code (arrived code n)
+  pub arrived_true : (n : Machine) → TrueStatus code (arrived code n)
   arrived_true n = by (eqb (label_of n) (length code)) refl
     where
       by : (b : Bool) → eqb (label_of n) (length code) ≡ b → TrueStatus code (record { status = cond (eqb (label_of n) (length code)) Halted Going; machine = n })

@@ -1,5 +1,5 @@
 -- A run: a machine with its status, and what an advance makes of it. Assumes nothing.
-use Rattle.std.specs.Prelude.{◌≡◌, ℕ, zero, suc, ◌+◌, ◌<◌, ◌≤◌, Bool, true, false, cond, List, [], length, ℤ, Some, None, Option, ◌==◌}
+use Rattle.std.specs.Prelude.{◌≡◌, ◌≢◌, ℕ, zero, suc, ◌+◌, ◌<◌, ◌≤◌, Bool, true, false, cond, List, [], length, ℤ, Some, None, Option, ◌==◌}
 use Rattle.push.specs.declared.instruction.Instruction.{Instruction}
 use Rattle.push.specs.declared.status.Status.{Status}
 use Rattle.push.specs.declared.status.Status.TheVariants.{Going, Halted, Faulted}
@@ -86,3 +86,16 @@ pub record Advanced (code : List Instruction) (budget count : ℕ) (before after
   pub within_budget : count ≤ budget
   pub short_only_if_stopped : count < budget → is_going after.status ≡ false
   pub status_stays_true : TrueStatus code before → TrueStatus code after
+
+-- What an advance with a budget makes of a run, by rules: the run before, the count that is answered, the run after. A run
+-- that has stopped stays. One that is going makes steps until the budget is used up, or it comes to the exit, or no rule
+-- of the machine applies.
+pub data AdvancesTo (code : List Instruction) (budget : ℕ) : RunState → ℕ → RunState → Type 0 where
+  stays : {r : RunState} → is_going r.status ≡ false → AdvancesTo code budget r 0 r
+  goes_on : {m n : Machine} → Steps code budget m n → label_of n ≢ length code →
+      AdvancesTo code budget (record { status = Going; machine = m }) budget (record { status = Going; machine = n })
+  halts : {count : ℕ} {m n : Machine} → Steps code count m n → 0 < count → count ≤ budget → label_of n ≡ length code →
+      AdvancesTo code budget (record { status = Going; machine = m }) count (record { status = Halted; machine = n })
+  faults : {count : ℕ} {m n : Machine} → Steps code count m n → count < budget → label_of n ≢ length code →
+      ((o : Machine) → code ⊢ n ⟶ o → ⊥) →
+      AdvancesTo code budget (record { status = Going; machine = m }) count (record { status = Faulted; machine = n })

@@ -1,6 +1,6 @@
 ghost use Rattle.std.specs.Prelude.{◌≡◌, ◌+◌, ◌<◌, ◌≤◌, true, [], ◌∷◌, length, drop, is_some, Some, None, MatchOption};
 ghost use Rattle.push.specs.Machine.{at, pushed, loaded, stored, turned, branched, integers_on, integer_on, flag_on, StepFollowsTheRules};
-ghost use Rattle.push.specs.Run.{begun, run, Advanced, NewRunsAreTrue};
+ghost use Rattle.push.specs.Run.{begun, run, Advanced, TrueStatus, AdvancesTo, NewRunsAreTrue};
 
 use crate::VARIABLES;
 use crate::instruction::Instruction;
@@ -49,6 +49,8 @@ impl Run {
         ensures status { result.0 ≡ (run_state self.new).status }
         ensures same_program { self.new.program ≡ self.old.program }
         ensures makes_the_machines_steps { Advanced self.old.program budget result.1 (run_state self.old) (run_state self.new) }
+        ensures goes_by_the_rules { TrueStatus self.old.program (run_state self.old)
+            → AdvancesTo self.old.program budget (run_state self.old) result.1 (run_state self.new) }
         ensures new_runs_are_true { NewRunsAreTrue }
         ensures steps_follow_the_rules { StepFollowsTheRules }
     {
