@@ -5,6 +5,7 @@
 mod flip;
 mod ladder;
 mod lattice;
+mod lent;
 mod meaning;
 mod owners;
 mod pair;
