@@ -1,4 +1,5 @@
 pub mod SheetFacts
 pub mod ListFacts
 pub mod Kept
+pub mod CallRules
 pub mod Pairs

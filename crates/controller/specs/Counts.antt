@@ -109,11 +109,20 @@ pub data Alike (o : Order) (observer : ℕ) : State → List Call → List Call 
   budgets : {s : State} {a b : ℕ} {calls others : List Call} → Alike o observer (after o s (advance a)) calls others → Alike o observer s (advance a ∷ calls) (advance b ∷ others)
   closed : {s : State} {v : ℕ} {x y : ℤ} {calls others : List Call} → v < 32 → o.at_most (slice_index (levels_of s) v) observer ≡ false → Alike o observer (after o s (set v x)) calls others → Alike o observer s (set v x ∷ calls) (set v y ∷ others)
 
--- Alike lists, each on a new controller, whose ends agree, show an observer the same. The observer is any code and the
--- other list any list, those that no program could write included.
+-- No stack fault comes in any list.
+abbrev pub NoStackFaults : Order → Type 0
+NoStackFaults o = (calls : List Call) → stack_faults (transcript o calls) ≡ 0
+
+-- Two lists, each on a new controller, with their answers: if they are alike for an observer and their ends agree, the
+-- observer's sheets are the same, byte for byte, and its shows answer the same.
+abbrev pub ShownTheSame : Order → List Call → List Call → List Answer → List Answer → ℕ → Type 0
+ShownTheSame o calls others left right observer =
+    Alike o observer (in_setup (new_state o)) calls others → ends left ≡ ends right →
+    (differing_bytes (sheets observer calls left) (sheets observer others right) ≡ 0)
+    × (show_answers observer calls left ≡ show_answers observer others right)
+
+-- So it is with the transcripts of a list and of any other. The observer is any code and the other list any list, those
+-- that no program could write included.
 abbrev pub ClosedValuesStayClosed : Order → List Call → Type 0
 ClosedValuesStayClosed o calls =
-    (observer : ℕ) (others : List Call) → Alike o observer (in_setup (new_state o)) calls others →
-    ends (transcript o calls) ≡ ends (transcript o others) →
-    (differing_bytes (sheets observer calls (transcript o calls)) (sheets observer others (transcript o others)) ≡ 0)
-    × (show_answers observer calls (transcript o calls) ≡ show_answers observer others (transcript o others))
+    (observer : ℕ) (others : List Call) → ShownTheSame o calls others (transcript o calls) (transcript o others) observer

@@ -2,5 +2,6 @@ pub mod Answers
 pub mod State
 pub mod Sheet
 pub mod Lists
+pub mod Calls
 pub mod Counts
 pub mod Of

@@ -16,7 +16,7 @@ mod variable;
 pub use answer::{Answer, Sheet};
 pub use call::Call;
 pub use ending::Ending;
-pub use list::transcript;
+pub use list::{transcript, two_transcripts};
 pub use push::VARIABLES;
 pub use ready::{LINE, Ready, SHEET};
 pub use refusal::Refusal;

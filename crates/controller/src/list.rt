@@ -1,6 +1,7 @@
-ghost use Rattle.std.specs.Prelude.{◌≡◌, map, IfOk};
+ghost use Rattle.std.specs.Prelude.{◌≡◌, ℕ, map, IfOk};
 ghost use Rattle.controller.specs.Lists.{transcript as transcript_of};
-ghost use Rattle.controller.specs.Counts.{stack_faults, ClosedValuesStayClosed};
+ghost use Rattle.controller.specs.Calls.{AnswersOf, TranscriptFollowsTheRules};
+ghost use Rattle.controller.specs.Counts.{stack_faults, NoStackFaults, ShownTheSame, ClosedValuesStayClosed};
 ghost use Rattle.controller.specs.Of.{call_of, answer_of};
 
 use crate::answer::Answer;
@@ -31,16 +32,65 @@ fn perform<L: Lattice + Drop>(
     Ok(answers)
 }
 
-// Makes a controller over a lattice, performs the calls on it in order, and answers for each. A call that its state does
-// not allow ends the list there. An error says that memory was wanting.
+/// Makes a controller over a lattice, performs the calls on it in order, and answers for each. A call that its state does
+/// not allow ends the list there. An error says that memory was wanting.
 pub fn transcript<L: Lattice + Drop>(
     heap: Global,
     lattice: L,
     calls: &[Call],
 ) -> Result<Vec<Answer>, AllocError>
     ensures transcript { IfOk result (λ answers. map answer_of answers.items ≡ transcript_of (L.Lattice.order lattice) (map call_of calls.now)) }
-    ensures no_stack_faults { IfOk result (λ answers. stack_faults (map answer_of answers.items) ≡ 0) }
+    ensures answers_by_the_rules { IfOk result (λ answers.
+        AnswersOf (L.Lattice.order lattice) (map call_of calls.now) (map answer_of answers.items)) }
+    ensures transcript_follows_the_rules { TranscriptFollowsTheRules (L.Lattice.order lattice) }
+    ensures no_stack_faults { NoStackFaults (L.Lattice.order lattice) }
     ensures closed_values_stay_closed { ClosedValuesStayClosed (L.Lattice.order lattice) (map call_of calls.now) }
 {
     perform(heap, lattice, calls)
+}
+
+// The two transcripts of `two_transcripts`.
+fn perform_both<L: Lattice>(
+    heap: Global,
+    lattice: &L,
+    calls: &[Call],
+    others: &[Call],
+) -> Result<(Vec<Answer>, Vec<Answer>), AllocError>
+    ensures { IfOk result (λ both.
+        (map answer_of both.0.items
+        ≡ transcript_of (L.Lattice.order lattice.now) (map call_of calls.now))
+        × (map answer_of both.1.items
+        ≡ transcript_of (L.Lattice.order lattice.now) (map call_of others.now))) }
+{
+    let answers = perform(heap, lattice, calls)?;
+    let other_answers = perform(heap, lattice, others)?;
+    Ok((answers, other_answers))
+}
+
+/// Performs two lists of calls, each on a controller of its own over the lattice, and answers the transcripts of both. An
+/// error says that memory was wanting.
+pub fn two_transcripts<L: Lattice>(
+    heap: Global,
+    lattice: &L,
+    calls: &[Call],
+    others: &[Call],
+) -> Result<(Vec<Answer>, Vec<Answer>), AllocError>
+    ensures transcripts { IfOk result (λ both.
+        (map answer_of both.0.items
+        ≡ transcript_of (L.Lattice.order lattice.now) (map call_of calls.now))
+        × (map answer_of both.1.items
+        ≡ transcript_of (L.Lattice.order lattice.now) (map call_of others.now))) }
+    ensures answers_by_the_rules { IfOk result (λ both.
+        AnswersOf (L.Lattice.order lattice.now) (map call_of calls.now)
+        (map answer_of both.0.items)
+        × AnswersOf (L.Lattice.order lattice.now) (map call_of others.now)
+        (map answer_of both.1.items)) }
+    ensures no_stack_faults { IfOk result (λ both.
+        (stack_faults (map answer_of both.0.items) ≡ 0)
+        × (stack_faults (map answer_of both.1.items) ≡ 0)) }
+    ensures closed_values_stay_closed { IfOk result (λ both. (observer : ℕ) →
+        ShownTheSame (L.Lattice.order lattice.now) (map call_of calls.now) (map call_of others.now)
+        (map answer_of both.0.items) (map answer_of both.1.items) observer) }
+{
+    perform_both(heap, lattice, calls, others)
 }

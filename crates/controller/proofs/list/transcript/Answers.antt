@@ -1,8 +1,9 @@
-use Rattle.std.proofs.Common.{map, ap, ◌∙◌}
+use Rattle.std.proofs.Common.{map, sym, subst}
 use Rattle.std.proofs.lemmas.Result.{IfOk-weaker}
-use Rattle.controller.specs.Counts.{stack_faults}
+use Rattle.controller.specs.Calls.{AnswersOf}
 use Rattle.controller.specs.Of.{call_of}
 use Rattle.controller.proofs.Kept.{no_stack_faults}
+use Rattle.controller.proofs.CallRules.{answers_of_transcript, transcript_follows_the_rules}
 use Rattle.controller.proofs.Pairs.{closed_values_stay_closed}
 use Rattle.controller.proofs.list.transcript.Goals as goal
 
@@ -13,6 +14,9 @@ returns g c =
     let calls = map call_of c.args.calls.now in
     record {
       transcript = c.perform.ensures;
-      no_stack_faults = IfOk-weaker c.perform.result _ _ (λ answers e. ap stack_faults e ∙ no_stack_faults order laws calls) c.perform.ensures;
+      answers_by_the_rules =
+          IfOk-weaker c.perform.result _ _ (λ answers e. subst (AnswersOf order calls) (sym e) (answers_of_transcript order laws calls)) c.perform.ensures;
+      transcript_follows_the_rules = transcript_follows_the_rules order laws;
+      no_stack_faults = no_stack_faults order laws;
       closed_values_stay_closed = closed_values_stay_closed order laws calls;
     }
