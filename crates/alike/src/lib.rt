@@ -4,7 +4,7 @@
 
 #[cfg(test)]
 mod tests {
-    use controller::{Answer, Call, Ending, SHEET, Sheet, transcript};
+    use controller::{Answer, Call, Ending, SHEET, Sheet, two_transcripts};
     use lattice::{Flip, Ladder, Lattice, Owners, Pair};
     use std::alloc::{AllocError, Global};
     use std::process::Abort;
@@ -210,19 +210,19 @@ mod tests {
     }
 
     // Compares the sheets after two runs, of 11 steps and of 10, on secrets that take the two ways of the branch.
-    fn compare<L: Lattice + Clone + Drop>(
+    fn compare<L: Lattice>(
         rt: &impl Abort,
         heap: Global,
-        lattice: L,
+        lattice: &L,
         levels: &Levels,
     ) -> Result<(), Fail> {
         let job = job(heap, levels)?;
-        let left = transcript(
+        let (left, right) = two_transcripts(
             heap,
-            lattice.clone()?,
+            lattice,
             &calls(job.as_slice(), levels, 0, 11),
+            &calls(job.as_slice(), levels, -1, 1000),
         )?;
-        let right = transcript(heap, lattice, &calls(job.as_slice(), levels, -1, 1000))?;
         let (left_open, left_all) = sheets(rt, left.as_slice())?;
         let (right_open, right_all) = sheets(rt, right.as_slice())?;
         assert_eq!(rt; left_open.count(), 3);
@@ -241,7 +241,7 @@ mod tests {
             closed: 3,
             highest: 15,
         };
-        compare(&rt, rt.alloc(), Ladder::new(16), &levels)
+        compare(&rt, rt.alloc(), &Ladder::new(16), &levels)
     }
 
     // The closed level and the observer's are two owners, neither at most the other.
@@ -253,7 +253,7 @@ mod tests {
             closed: 4,
             highest: 15,
         };
-        compare(&rt, rt.alloc(), Owners::new(4), &levels)
+        compare(&rt, rt.alloc(), &Owners::new(4), &levels)
     }
 
     // The observer's parts are 1 and 2. The closed level's, 0 and 0, are at most these in the first only.
@@ -268,7 +268,7 @@ mod tests {
         compare(
             &rt,
             rt.alloc(),
-            Pair::new(Ladder::new(4), Flip::new(Ladder::new(4))),
+            &Pair::new(Ladder::new(4), Flip::new(Ladder::new(4))),
             &levels,
         )
     }
