@@ -13,7 +13,7 @@ abbrev pub sizes_read : Result Job ReadFault → Result Sizes ReadFault
 sizes_read (Ok j) = Ok (sizes j)
 sizes_read (Err fault) = Err fault
 
--- What a claim says in a job, where its record stands.
+-- What a claim of a job says: its stack is that of the record at its byte place.
 abbrev pub claim_says : Job → Claim → Claimed
 claim_says j c = record { surrounding = c.surrounding; stack = stack_in (record_at j.bytes.now (sizes j) c.record_place) c.depth }
 
