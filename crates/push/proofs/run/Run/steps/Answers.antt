@@ -1,7 +1,6 @@
-use Rattle.std.proofs.Common.{◌≡◌, ◌+◌, ◌-◌, true, false, cond, None, sym, ap, ◌∙◌, arith, rules}
+use Rattle.std.proofs.Common.{◌≡◌, ◌+◌, ◌-◌, true, false, ap, ◌∙◌, arith, rules}
 use Rattle.push.specs.declared.status.Status.TheVariants.{Going}
 use Rattle.push.specs.Of.{run_state, whole, next, stepped, settled}
-use Rattle.push.specs.Run.{run}
 use Rattle.push.proofs.RunFacts.{nothing_to_settle, run_over, turn_made, turn_refused}
 use Rattle.push.proofs.run.Run.steps.Goals as goal
 
@@ -16,7 +15,8 @@ returns-then-is_none-clause-run c =
     let before = c.loop-steps.self in
     let machine = (run_state before).machine in
     let none : (false, whole c.step.new.self) ≡ stepped (whole before) (next (whole before)) = search rules in
-    ap (λ p. (c.loop-steps.steps, p.1)) c.settle.ensures ∙ turn_refused before.program _ _ _ before.status machine (whole c.step.new.self) (omega arith) c.loop-steps.invariant.so_far none
+    let refused = turn_refused before.program _ _ _ before.status machine (whole c.step.new.self) (omega arith) c.loop-steps.invariant.so_far none in
+    search (rules, refused)
 
 pub loop-steps-preserved : goal.loop-steps-preserved
 loop-steps-preserved c =
@@ -32,7 +32,6 @@ loop-steps-preserved c =
 pub returns-clause-run : goal.returns-clause-run
 returns-clause-run c =
     let before = c.loop-steps.self in
-    let all : c.args.budget ≡ c.loop-steps.steps = omega arith in
     let settles = (settled c.loop-steps.steps Going (whole before)).1 in
-    ap (λ p. (c.args.budget, p.1)) c.settle-2.ensures ∙ ap (λ n. (n, (settled n Going (whole before)).1)) all
-    ∙ run_over before.program _ c.loop-steps.steps (c.args.budget - c.loop-steps.steps) settles (omega arith) c.loop-steps.invariant.so_far
+    let over = run_over before.program _ c.loop-steps.steps (c.args.budget - c.loop-steps.steps) settles (omega arith) c.loop-steps.invariant.so_far in
+    grind (arith, over)
