@@ -6,9 +6,12 @@ use Rattle.push.specs.declared.instruction.Instruction.{Instruction}
 use Rattle.push.specs.Machine.{Machine, at, step, perform, ◌⊢◌⟶◌}
 use Rattle.push.specs.declared.status.Status.{Status}
 use Rattle.push.specs.declared.status.Status.TheVariants.{Going, Halted, Faulted}
-use Rattle.push.specs.Of.{stepped, settled}
+use Rattle.push.specs.Of.{next, stepped, settled}
 use Rattle.push.specs.Run.{RunState, one, tried, arrived, counted, run, is_going, is_halted, label_of, Steps, none, more, TrueStatus, NewRunsAreTrue, Advanced}
 use Rattle.push.proofs.StepFacts.{rule_steps, steps_by_rule}
+
+abbrev of : Status → Machine → RunState
+of status m = record { status = status; machine = m }
 
 module _ (code : List Instruction) where
   pub run_none : (r : RunState) → run code 0 r ≡ (0, r)
@@ -42,59 +45,83 @@ module _ (code : List Instruction) where
   steps_before_exit m n false before e = refl
 
   -- before the first step there is nothing to settle
-  pub nothing_to_settle : (status : Status) (m : Machine) → (settled 0 Going (code, record { status = status; machine = m })).1 ≡ record { status = status; machine = m }
+  pub nothing_to_settle : (status : Status) (m : Machine) → (settled 0 Going (code, of status m)).1 ≡ of status m
   nothing_to_settle Going m = refl
   nothing_to_settle Halted m = refl
   nothing_to_settle Faulted m = refl
 
   -- a turn of the loop that makes a step, and one that makes none: the status is settled where the turns end
-  pub turn_made : (total : ℕ × RunState) (k left : ℕ) (status : Status) (m : Machine) (after : List Instruction × RunState) → 0 < left → total ≡ counted k (run code left (settled k Going (code, record { status = status; machine = m })).1) → (true, after) ≡ stepped (code, record { status = status; machine = m }) (cond (is_going status) (step code m) None) → total ≡ counted (k + 1) (run after.0 (left - 1) (settled (k + 1) Going after).1)
+  pub turn_made : (total : ℕ × RunState) (k left : ℕ) (status : Status) (m : Machine) (after : List Instruction × RunState) → 0 < left
+      → total ≡ counted k (run code left (settled k Going (code, of status m)).1)
+      → (true, after) ≡ stepped (code, of status m) (next (code, of status m))
+      → total ≡ counted (k + 1) (run after.0 (left - 1) (settled (k + 1) Going after).1)
   turn_made total k left Halted m after some so_far e = absurd (true≢false (ap (λ p. p.0) e))
   turn_made total k left Faulted m after some so_far e = absurd (true≢false (ap (λ p. p.0) e))
   turn_made total k left Going m after some so_far e = by (step code m) refl e
     where
       before : RunState
-      before = (settled k Going (code, record { status = Going; machine = m })).1
+      before = (settled k Going (code, of Going m)).1
 
       stays_going : (b c : Bool) → c ≡ false → cond (b && c) Halted Going ≡ Going
       stays_going true c e = ap (λ c. cond c Halted Going) e
       stays_going false c e = refl
 
+      arrives : (o : Machine) → arrived code o ≡ (settled (k + 1) Going (code, of Going o)).1
+      arrives o = ap (λ b. of (cond (b && eqb (label_of o) (length code)) Halted Going) o) (sym (lt-ltb 0 (k + 1) (omega arith)))
+
       sums : (c : ℕ) → k + (1 + c) ≡ k + 1 + c
       sums c = omega arith
 
-      by : (o : Option Machine) → step code m ≡ o → (true, after) ≡ stepped (code, record { status = Going; machine = m }) o → total ≡ counted (k + 1) (run after.0 (left - 1) (settled (k + 1) Going after).1)
+      by : (o : Option Machine) → step code m ≡ o → (true, after) ≡ stepped (code, of Going m) o
+          → total ≡ counted (k + 1) (run after.0 (left - 1) (settled (k + 1) Going after).1)
       by None stuck e = absurd (true≢false (ap (λ p. p.0) e))
       by (Some o) made e =
           let more : left ≡ suc (left - 1) = omega arith in
-          let going : before.status ≡ Going = stays_going (ltb 0 k) (eqb (label_of m) (length code)) (steps_before_exit m o (eqb (label_of m) (length code)) refl made) in
-          let next : arrived code o ≡ (settled (k + 1) Going (code, record { status = Going; machine = o })).1 = ap (λ b. record { status = cond (b && eqb (label_of o) (length code)) Halted Going; machine = o }) (sym (lt-ltb 0 (k + 1) (omega arith))) in
+          let exit : Bool = eqb (label_of m) (length code) in
+          let going : before.status ≡ Going = stays_going (ltb 0 k) exit (steps_before_exit m o exit refl made) in
           let turn : one code before.status m ≡ (true, arrived code o) = ap (λ s. one code s m) going ∙ ap (tried code m) made in
           so_far ∙ ap (counted k) (ap (λ c. run code c before) more ∙ made_one (left - 1) before (arrived code o) turn)
           ∙ (λ i. (sums (run code (left - 1) (arrived code o)).0 i, (run code (left - 1) (arrived code o)).1))
-          ∙ ap (λ r. counted (k + 1) (run code (left - 1) r)) next
+          ∙ ap (λ r. counted (k + 1) (run code (left - 1) r)) (arrives o)
           ∙ ap (λ p. counted (k + 1) (run p.1.0 (left - 1) (settled (k + 1) Going p.1).1)) (sym e)
 
-  ends_there : (total : ℕ × RunState) (k left : ℕ) (r end : RunState) → run code left r ≡ (0, end) → total ≡ counted k (run code left r) → (k, end) ≡ total
+  ends_there : (total : ℕ × RunState) (k left : ℕ) (r end : RunState) → run code left r ≡ (0, end)
+      → total ≡ counted k (run code left r)
+      → (k, end) ≡ total
   ends_there total k left r end over so_far = sym (so_far ∙ ap (counted k) over ∙ (λ i. (nothing_more i, end)))
     where
       nothing_more : k + 0 ≡ k
       nothing_more = omega arith
 
-  pub turn_refused : (total : ℕ × RunState) (k left : ℕ) (status : Status) (m : Machine) (after : List Instruction × RunState) → 0 < left → total ≡ counted k (run code left (settled k Going (code, record { status = status; machine = m })).1) → (false, after) ≡ stepped (code, record { status = status; machine = m }) (cond (is_going status) (step code m) None) → (k, (settled k Faulted after).1) ≡ total
-  turn_refused total k left Halted m after some so_far e = ap (λ p. (k, (settled k Faulted p.1).1)) e ∙ ends_there total k left _ _ (run_stopped left (record { status = Halted; machine = m }) refl) so_far
-  turn_refused total k left Faulted m after some so_far e = ap (λ p. (k, (settled k Faulted p.1).1)) e ∙ ends_there total k left _ _ (run_stopped left (record { status = Faulted; machine = m }) refl) so_far
-  turn_refused total k left Going m after some so_far e = by (step code m) refl e
+  pub turn_refused : (total : ℕ × RunState) (k left : ℕ) (status : Status) (m : Machine) (after : List Instruction × RunState) → 0 < left
+      → total ≡ counted k (run code left (settled k Going (code, of status m)).1)
+      → (false, after) ≡ stepped (code, of status m) (next (code, of status m))
+      → (k, (settled k Faulted after).1) ≡ total
+  turn_refused total k left status m after some so_far e = by status so_far e
     where
-      ends : (halts : Bool) → step code m ≡ None → run code left (record { status = cond halts Halted Going; machine = m }) ≡ (0, record { status = cond halts Halted Faulted; machine = m })
-      ends true stuck = run_stopped left (record { status = Halted; machine = m }) refl
-      ends false stuck =
-          let more : left ≡ suc (left - 1) = omega arith in
-          ap (λ c. run code c (record { status = Going; machine = m })) more ∙ made_none (left - 1) (record { status = Going; machine = m }) (record { status = Faulted; machine = m }) (ap (tried code m) stuck)
+      ends : (r : RunState) → after ≡ (code, r) → (k, (settled k Faulted (code, r)).1) ≡ total → (k, (settled k Faulted after).1) ≡ total
+      ends r e there = ap (λ p. (k, (settled k Faulted p).1)) e ∙ there
 
-      by : (o : Option Machine) → step code m ≡ o → (false, after) ≡ stepped (code, record { status = Going; machine = m }) o → (k, (settled k Faulted after).1) ≡ total
-      by None stuck e = ap (λ p. (k, (settled k Faulted p.1).1)) e ∙ ends_there total k left _ _ (ends (ltb 0 k && eqb (label_of m) (length code)) stuck) so_far
-      by (Some o) made e = absurd (false≢true (ap (λ p. p.0) e))
+      stuck_there : (halts : Bool) → step code m ≡ None → run code left (of (cond halts Halted Going) m) ≡ (0, of (cond halts Halted Faulted) m)
+      stuck_there true stuck = run_stopped left (of Halted m) refl
+      stuck_there false stuck =
+          let more : left ≡ suc (left - 1) = omega arith in
+          ap (λ c. run code c (of Going m)) more ∙ made_none (left - 1) (of Going m) (of Faulted m) (ap (tried code m) stuck)
+
+      going : (o : Option Machine) → step code m ≡ o → total ≡ counted k (run code left (settled k Going (code, of Going m)).1)
+          → (false, after) ≡ stepped (code, of Going m) o
+          → (k, (settled k Faulted after).1) ≡ total
+      going None stuck so_far e =
+          let halts : Bool = ltb 0 k && eqb (label_of m) (length code) in
+          ends (of Going m) (ap (λ p. p.1) e) (ends_there total k left _ _ (stuck_there halts stuck) so_far)
+      going (Some o) made so_far e = absurd (false≢true (ap (λ p. p.0) e))
+
+      by : (status : Status) → total ≡ counted k (run code left (settled k Going (code, of status m)).1)
+          → (false, after) ≡ stepped (code, of status m) (next (code, of status m))
+          → (k, (settled k Faulted after).1) ≡ total
+      by Halted so_far e = ends (of Halted m) (ap (λ p. p.1) e) (ends_there total k left _ _ (run_stopped left (of Halted m) refl) so_far)
+      by Faulted so_far e = ends (of Faulted m) (ap (λ p. p.1) e) (ends_there total k left _ _ (run_stopped left (of Faulted m) refl) so_far)
+      by Going so_far e = going (step code m) refl so_far e
 
   -- the budget is used up
   pub run_over : (total : ℕ × RunState) (k left : ℕ) (r : RunState) → left ≡ 0 → total ≡ counted k (run code left r) → (k, r) ≡ total

@@ -7,5 +7,6 @@ use Rattle.push.proofs.run.Run.steps.Given as goal
 abbrev pub invariant-loop-steps : goal.invariant-loop-steps
 invariant-loop-steps l = record {
   same_program : l.self.program ≡ l.initial.self.program;
-  so_far : run l.initial.self.program l.budget (run_state l.initial.self) ≡ counted l.steps (run l.self.program (l.budget - l.steps) (settled l.steps Going (whole l.self)).1);
+  so_far : run l.initial.self.program l.budget (run_state l.initial.self)
+      ≡ counted l.steps (run l.self.program (l.budget - l.steps) (settled l.steps Going (whole l.self)).1);
 }
