@@ -1,4 +1,4 @@
--- The first broken rule of a job is the only one, and the verdict names it. Assumes nothing.
+-- Whatever rule of a job is the first broken one, the verdict names it. Assumes nothing.
 use Rattle.std.proofs.Common.{◌≡◌, ℕ, zero, suc, ◌<◌, ◌≢◌, List, Some, None, Ok, Option, sym, refl, ap, ◌∙◌, ap₂, ⊎_elim, add-one, arith}
 use Rattle.std.proofs.lemmas.Bool.{cases_eq, cond-true}
 use Rattle.lattice.specs.Order.{Order}
@@ -189,11 +189,6 @@ module _ (o : Order) (levels bytes : List ℕ) where
 pub broken_is_the_verdict : (o : Order) (levels bytes : List ℕ) (a m : ℕ) → FirstBroken o levels bytes a m → verdict o levels bytes ≡ (a, m)
 broken_is_the_verdict o levels bytes a m broken = named o levels bytes broken
 
--- No second rule is the first broken one, and a job that can be mounted breaks none.
-pub first_broken_is_one : (o : Order) (levels bytes : List ℕ) (a m b n : ℕ) → FirstBroken o levels bytes a m → FirstBroken o levels bytes b n → (a ≡ b) × (m ≡ n)
-first_broken_is_one o levels bytes a m b n p q =
-    let same : ◌≡◌ {A = ℕ × ℕ} (a, m) (b, n) = sym (broken_is_the_verdict o levels bytes a m p) ∙ broken_is_the_verdict o levels bytes b n q in
-    (ap (λ v. v.0) same, ap (λ v. v.1) same)
-
+-- A job that can be mounted breaks none.
 pub mountable_breaks_none : (o : Order) (levels bytes : List ℕ) (a m : ℕ) → Mountable o levels bytes → FirstBroken o levels bytes a m → ⊥
 mountable_breaks_none o levels bytes a m mountable broken = not_both o levels bytes broken mountable
