@@ -1,5 +1,5 @@
 -- The outcome of each call is what the rules say, and only that, and so is the transcript of a list. Assumes the laws of
--- the order, by which every run that a list comes to has halted exactly at the exit.
+-- the order, since it goes by the states that a list can come to (Kept.antt), whose runs are halted exactly at the exit.
 use Rattle.std.proofs.Common.{◌≡◌, ◌≢◌, ℕ, ◌+◌, ◌*◌, ◌<◌, ◌≤◌, Bool, true, false, cond, eqb, ltb, List, [], ◌∷◌, ◌++◌, length, get_or, take, drop, set, replicate, ℤ, pos, sym, refl, ap, ◌∙◌, subst, ⊎_elim, arith}
 use lib.ListN.{length-replicate}
 use Rattle.std.proofs.lemmas.List.{take_at}
@@ -150,7 +150,7 @@ module _ (o : Order) where
   leads_outcome (rule.mount_refused {s = s} {bytes = bytes} {number = number} {label = label} b) =
       let is = broken_is_the_verdict o s.levels bytes number label b in
       let some : number ≡ 0 → ⊥ =
-          λ z. ⊎_elim (λ p. mountable_breaks_none o s.levels bytes number label p.1 b) (λ p. p.0 (ap (λ v. v.0) is ∙ z)) (verdict_judged o s.levels bytes)
+      λ z. ⊎_elim (λ p. mountable_breaks_none o s.levels bytes number label p.1 b) (λ p. p.0 (ap (λ v. v.0) is ∙ z)) (verdict_judged o s.levels bytes)
       in
       rw (is, ne_eqb number 0 some)
   leads_outcome (rule.set_accepted {v = v} k) = rw (lt-ltb v 32 k)

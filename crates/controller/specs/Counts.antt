@@ -91,7 +91,7 @@ abbrev pub state_after : State → Outcome → State
 state_after s (allowed answer next) = next
 state_after s disallowed = s
 
--- The state after a call on a state.
+-- The state after a call on a state: the one that the rules lead to (Calls.antt), or the same where it is not allowed.
 abbrev pub after : Order → State → Call → State
 after o s call = state_after s (outcome o s call)
 

@@ -49,7 +49,7 @@ pub fn transcript<L: Lattice + Drop>(
     perform(heap, lattice, calls)
 }
 
-// The two transcripts of `two_transcripts`.
+// The two transcripts of `two_transcripts`, without its theorem, so that a wrong list is refused here and at its fact.
 fn perform_both<L: Lattice>(
     heap: Global,
     lattice: &L,

@@ -21,14 +21,17 @@ pub struct Claim {
     pub record_place: usize,
 }
 
-// A claimed stack place: a kind and a level.
+/// A claimed stack place: a kind and a level, which is any code in a record that has not been checked.
 #[derive(Clone, Copy, PartialEq, Eq, Debug)]
 pub enum Place {
+    /// An integer of this level.
     IntegerAt(u16),
+    /// A boolean of this level.
     BooleanAt(u16),
 }
 
 impl Place {
+    /// What the place holds.
     pub fn kind(self) -> Kind
         ensures { result ≡ kind_of self }
     {
@@ -38,6 +41,7 @@ impl Place {
         }
     }
 
+    /// The level of what it holds.
     pub fn level(self) -> u16
         ensures { result ≡ level_of self }
     {
@@ -99,7 +103,7 @@ fn is_claim(span: u32, places: u8, record: &[u8]) -> bool
 }
 
 impl Job<'_> {
-    // Sees that a claim record is like its description, over a lattice of so many levels.
+    /// Sees that a label's claim record is like its description, over a lattice of so many levels.
     pub fn check_claim_record(&self, span: u32, label: u16) -> Result<(), RecordFault>
         ensures { record_answer result ≡ cond (like_a_claim span (sizes self.now).places (claim_record self.now.bytes.now (sizes self.now) label)) 0 9 }
     {

@@ -52,7 +52,7 @@ fn instruction_in(exit: u8, record: &[u8]) -> Result<Instruction, RecordFault>
 }
 
 impl Job<'_> {
-    // The instruction at a label.
+    /// The instruction at a label, or the fault of a record that is unlike its description.
     pub fn instruction(&self, label: u16) -> Result<Instruction, RecordFault>
         ensures { result ≡ instruction_read (instruction_in (sizes self.now).instructions (instruction_record self.now.bytes.now label)) }
     {

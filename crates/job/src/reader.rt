@@ -6,7 +6,7 @@ use crate::fault::ReadFault;
 use crate::part::part;
 use push::{INSTRUCTIONS, STACK_PLACES};
 
-// A job over the caller's bytes, with the two sizes that it opens with.
+/// A job over the caller's bytes, with the two sizes that it opens with.
 #[derive(Clone, Copy)]
 pub struct Job<'a> {
     pub(crate) bytes: &'a [u8],
@@ -15,7 +15,7 @@ pub struct Job<'a> {
 }
 
 impl<'a> Job<'a> {
-    // Reads a job's opening, and sees that the bytes are as many as it says.
+    /// Reads a job's opening, and sees that the bytes are as many as it says.
     pub fn read(bytes: &'a [u8]) -> Result<Job<'a>, ReadFault>
         ensures sizes { sizes_read result ≡ opening bytes.now }
         ensures bytes { IfOk result (λ j. j.bytes.now ≡ bytes.now) }
@@ -41,7 +41,7 @@ impl<'a> Job<'a> {
         })
     }
 
-    // How many instructions there are; this is the exit's label.
+    /// How many instructions there are, 0 to 128 of a job that was read; this is the exit's label.
     pub fn exit(&self) -> u16
         ensures value { result ≡ (sizes self.now).instructions }
         ensures bound { result < 256 }
@@ -49,7 +49,7 @@ impl<'a> Job<'a> {
         u16::from(self.instructions)
     }
 
-    // An instruction record, with its byte place.
+    /// The instruction record of a label, six bytes, with its byte place; as much of it as the job has.
     pub fn instruction_record(&self, label: u16) -> (usize, &'a [u8])
         ensures place { result.0 ≡ instruction_place label }
         ensures bytes { result.1.now ≡ instruction_record self.now.bytes.now label }
@@ -58,7 +58,7 @@ impl<'a> Job<'a> {
         (at, part(self.bytes, at, 6))
     }
 
-    // A claim record, with its byte place.
+    /// The claim record of a label, with its byte place; as much of it as the job has.
     pub fn claim_record(&self, label: u16) -> (usize, &'a [u8])
         ensures place { result.0 ≡ claim_place (sizes self.now) label }
         ensures bytes { result.1.now ≡ claim_record self.now.bytes.now (sizes self.now) label }

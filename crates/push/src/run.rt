@@ -49,7 +49,7 @@ impl Run {
         ensures status { result.0 ≡ (run_state self.new).status }
         ensures same_program { self.new.program ≡ self.old.program }
         ensures makes_the_machines_steps { Advanced self.old.program budget result.1 (run_state self.old) (run_state self.new) }
-        ensures goes_by_the_rules { TrueStatus self.old.program (run_state self.old)
+        ensures follows_the_rules_of_an_advance { TrueStatus self.old.program (run_state self.old)
             → AdvancesTo self.old.program budget (run_state self.old) result.1 (run_state self.new) }
         ensures new_runs_are_true { NewRunsAreTrue }
         ensures steps_follow_the_rules { StepFollowsTheRules }
@@ -66,8 +66,8 @@ impl Run {
         (self.status, self.program, values)
     }
 
-    // Makes steps until none can be made or so many are made, and answers how many. None of them writes the status, which is
-    // settled where they end: one that a step writes is read again at the next.
+    // Makes steps until none can be made or so many are made, and answers how many. A step does not write the status;
+    // `settle` does, where the steps end: a status that each step wrote would be read again at the next.
     fn steps(&mut self, budget: u32) -> u32
         ensures run { (result, run_state self.new) ≡ run self.old.program budget (run_state self.old) }
         ensures same_program { self.new.program ≡ self.old.program }

@@ -26,7 +26,9 @@ returns g c =
           ))
           made;
       no_stack_faults =
-          IfOk-weaker c.perform_both.result _ _ (λ both e. (ap stack_faults e.0 ∙ no_stack_faults o laws calls, ap stack_faults e.1 ∙ no_stack_faults o laws others)) made;
+          IfOk-weaker c.perform_both.result _ _
+          (λ both e. (ap stack_faults e.0 ∙ no_stack_faults o laws calls, ap stack_faults e.1 ∙ no_stack_faults o laws others))
+          made;
       closed_values_stay_closed =
           IfOk-weaker c.perform_both.result _ _
           (λ both e observer.
