@@ -1,5 +1,6 @@
 -- The plain terms of a controller, of calls and of answers. Assumes nothing.
-use Rattle.std.specs.Prelude.{◌≡◌, ℕ, ◌/◌, [], length, Some, None, Ok, Err, vec_items, Option, Result}
+use Rattle.std.specs.Prelude.{◌≡◌, ℕ, ◌/◌, List, [], map, length, Some, None, Ok, Err, vec_items, Option, Result}
+use Rattle.lattice.specs.Order.{Order}
 use Rattle.push.specs.Of.{run_state}
 use Rattle.controller.specs.State.{SetupState, ReadyState, RunningState}
 use Rattle.checker.specs.Faults.{mount_answer}
@@ -58,6 +59,10 @@ answer_of (Advanced status steps) = plain.advanced (advance_answer (status, step
 answer_of (Ended ending) = plain.ended (ending_number ending)
 answer_of Unsealed = plain.unsealed
 answer_of (NotAllowed place) = plain.not_allowed place
+
+-- Some answers are the transcript of a list.
+abbrev pub Transcribes : Order → List Call → List Answer → Type 0
+Transcribes o calls answers = map answer_of answers ≡ plain.transcript o (map call_of calls)
 
 abbrev pub state_of : {L : Type 0} → Phase L → plain.State
 state_of (phase.Setup s) = plain.in_setup (setup_state s)

@@ -2,7 +2,7 @@ ghost use Rattle.std.specs.Prelude.{◌≡◌, ℕ, map, IfOk};
 ghost use Rattle.controller.specs.Lists.{transcript as transcript_of};
 ghost use Rattle.controller.specs.Calls.{AnswersOf, TranscriptFollowsTheRules};
 ghost use Rattle.controller.specs.Counts.{stack_faults, NoStackFaults, ShownTheSame, ClosedValuesStayClosed};
-ghost use Rattle.controller.specs.Of.{call_of, answer_of};
+ghost use Rattle.controller.specs.Of.{call_of, answer_of, Transcribes};
 
 use crate::answer::Answer;
 use crate::call::Call;
@@ -57,10 +57,8 @@ fn perform_both<L: Lattice>(
     others: &[Call],
 ) -> Result<(Vec<Answer>, Vec<Answer>), AllocError>
     ensures { IfOk result (λ both.
-        (map answer_of both.0.items
-        ≡ transcript_of (L.Lattice.order lattice.now) (map call_of calls.now))
-        × (map answer_of both.1.items
-        ≡ transcript_of (L.Lattice.order lattice.now) (map call_of others.now))) }
+        Transcribes (L.Lattice.order lattice.now) calls.now both.0.items
+        × Transcribes (L.Lattice.order lattice.now) others.now both.1.items) }
 {
     let answers = perform(heap, lattice, calls)?;
     let other_answers = perform(heap, lattice, others)?;
@@ -76,10 +74,8 @@ pub fn two_transcripts<L: Lattice>(
     others: &[Call],
 ) -> Result<(Vec<Answer>, Vec<Answer>), AllocError>
     ensures transcripts { IfOk result (λ both.
-        (map answer_of both.0.items
-        ≡ transcript_of (L.Lattice.order lattice.now) (map call_of calls.now))
-        × (map answer_of both.1.items
-        ≡ transcript_of (L.Lattice.order lattice.now) (map call_of others.now))) }
+        Transcribes (L.Lattice.order lattice.now) calls.now both.0.items
+        × Transcribes (L.Lattice.order lattice.now) others.now both.1.items) }
     ensures answers_by_the_rules { IfOk result (λ both.
         AnswersOf (L.Lattice.order lattice.now) (map call_of calls.now)
         (map answer_of both.0.items)

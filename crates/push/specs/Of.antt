@@ -10,7 +10,7 @@ use Rattle.push.specs.Run.{RunState, is_going, label_of, moved}
 abbrev pub run_state : Run → RunState
 run_state r = record { status = r.status; machine = at r.label r.stack r.values }
 
--- With its program.
+-- What follows is for private clauses alone. A run with its program.
 abbrev pub whole : Run → List Instruction × RunState
 whole r = (r.program, run_state r)
 

@@ -88,8 +88,8 @@ pub record Advanced (code : List Instruction) (budget count : ℕ) (before after
   pub status_stays_true : TrueStatus code before → TrueStatus code after
 
 -- What an advance with a budget makes of a run, by rules: the run before, the count that is answered, the run after. A run
--- that has stopped stays. One that is going makes steps until the budget is used up, or it comes to the exit, or no rule
--- of the machine applies.
+-- that has stopped stays. One that is going stands before the exit; it makes steps until the budget is used up, or it
+-- comes to the exit, by one step at least, or no rule of the machine applies.
 pub data AdvancesTo (code : List Instruction) (budget : ℕ) : RunState → ℕ → RunState → Type 0 where
   stays : {r : RunState} → is_going r.status ≡ false → AdvancesTo code budget r 0 r
   goes_on : {m n : Machine} → Steps code budget m n → label_of n ≢ length code →

@@ -83,7 +83,8 @@ impl Run {
     }
 
     // Where so many steps end, a run that is going becomes halted if they came to the exit, and otherwise what is passed.
-    // The count is asked so that this holds at any status and label: a fact on the two would not hold between steps.
+    // Where none was made it has come nowhere: a run that is going at the exit is none that `begin` and `advance` leave,
+    // but the type does not say so, since between steps there is one.
     fn settle(&mut self, steps: u32, otherwise: Status)
         ensures { whole self.new ≡ settled steps otherwise (whole self.old) }
     {
