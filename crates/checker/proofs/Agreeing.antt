@@ -1,6 +1,6 @@
 -- Two runs at one label that agree on what is open to an observer: under the same instruction they stay so, unless they
 -- part at a branch on a closed boolean. Assumes the laws of the order.
-use Rattle.std.proofs.Common.{◌≡◌, ℕ, ◌+◌, ◌<◌, Bool, true, false, cond, not, ◌⊎◌, List, [], ◌∷◌, get_or, set, ℤ, pos, Some, sym, refl, ap, ◌∙◌, subst, ap₂, inl, inr, arith}
+use Rattle.std.proofs.Common.{◌≡◌, ℕ, ◌+◌, ◌<◌, Bool, true, false, cond, not, ◌⊎◌, List, [], ◌∷◌, get_or, set, ℤ, pos, int_lt, Some, sym, refl, ap, ◌∙◌, subst, ap₂, inl, inr, arith}
 use Rattle.std.proofs.lemmas.Bool.{true≢false}
 use Rattle.lattice.specs.Order.{Order, Laws}
 use Rattle.lattice.specs.Levels.{join_level}
@@ -10,7 +10,7 @@ use Rattle.push.specs.declared.value.Value.{Value}
 use Rattle.push.specs.declared.value.Value.TheVariants.{Int, Flag}
 use Rattle.push.specs.Code.{fetch}
 use Rattle.push.specs.Language.{successors}
-use Rattle.push.specs.Numbers.{sum, difference, same, less}
+use Rattle.push.specs.Numbers.{sum, difference, same}
 use Rattle.push.specs.Machine as rule
 use Rattle.push.specs.Machine.{at, ◌⊢◌⟶◌}
 use Rattle.job.specs.declared.claim.Place.{Place}
@@ -96,14 +96,14 @@ module _ (o : Order) (w : ℕ) where
           inl (record { next = l + 1; left = Int (difference u x) ∷ s; right = Int (difference v y) ∷ t; left_values = vs; right_values = ws; left_rule = rule.sub at_l; right_rule = rule.sub at_l; among = here; agree = same_int (λ low. ap₂ difference (k (low_second a b ha hb low)) (h (low_first a b ha hb low))) r; opened = opened })
       together at_l (leaving.eq {a = a} {b = b}) (sound.more ha (sound.more hb ls)) {vs = vs} {ws = ws} (same_int {x = x} {y = y} h (same_int {x = u} {y = v} {s = s} {t = t} k r)) opened =
           inl (record { next = l + 1; left = Flag (same u x) ∷ s; right = Flag (same v y) ∷ t; left_values = vs; right_values = ws; left_rule = rule.eq at_l; right_rule = rule.eq at_l; among = here; agree = same_flag (λ low. ap₂ same (k (low_second a b ha hb low)) (h (low_first a b ha hb low))) r; opened = opened })
-      together at_l (leaving.lower {a = a} {b = b}) (sound.more ha (sound.more hb ls)) {vs = vs} {ws = ws} (same_int {x = x} {y = y} h (same_int {x = u} {y = v} {s = s} {t = t} k r)) opened =
-          inl (record { next = l + 1; left = Flag (less u x) ∷ s; right = Flag (less v y) ∷ t; left_values = vs; right_values = ws; left_rule = rule.lower at_l; right_rule = rule.lower at_l; among = here; agree = same_flag (λ low. ap₂ less (k (low_second a b ha hb low)) (h (low_first a b ha hb low))) r; opened = opened })
-      together at_l (leaving.turn {a = a}) (sound.more ha ls) {vs = vs} {ws = ws} (same_flag {b = b} {d = d} {s = s} {t = t} h r) opened =
-          inl (record { next = l + 1; left = Flag (not b) ∷ s; right = Flag (not d) ∷ t; left_values = vs; right_values = ws; left_rule = rule.turn at_l; right_rule = rule.turn at_l; among = here; agree = same_flag (λ low. ap not (h (low_left a p ha hp low))) r; opened = opened })
+      together at_l (leaving.less {a = a} {b = b}) (sound.more ha (sound.more hb ls)) {vs = vs} {ws = ws} (same_int {x = x} {y = y} h (same_int {x = u} {y = v} {s = s} {t = t} k r)) opened =
+          inl (record { next = l + 1; left = Flag (int_lt u x) ∷ s; right = Flag (int_lt v y) ∷ t; left_values = vs; right_values = ws; left_rule = rule.less at_l; right_rule = rule.less at_l; among = here; agree = same_flag (λ low. ap₂ int_lt (k (low_second a b ha hb low)) (h (low_first a b ha hb low))) r; opened = opened })
+      together at_l (leaving.not {a = a}) (sound.more ha ls) {vs = vs} {ws = ws} (same_flag {b = b} {d = d} {s = s} {t = t} h r) opened =
+          inl (record { next = l + 1; left = Flag (not b) ∷ s; right = Flag (not d) ∷ t; left_values = vs; right_values = ws; left_rule = rule.not at_l; right_rule = rule.not at_l; among = here; agree = same_flag (λ low. ap not (h (low_left a p ha hp low))) r; opened = opened })
       together at_l (leaving.goto {m = m}) ls {s} {t} {vs} {ws} r opened =
           inl (record { next = m; left = s; right = t; left_values = vs; right_values = ws; left_rule = rule.goto at_l; right_rule = rule.goto at_l; among = here; agree = r; opened = opened })
-      together at_l (leaving.branch {m = m} {j = j} {g = g} {ps = ps}) ls {vs = vs} {ws = ws} (same_flag {b = b} {d = d} {s = s} {t = t} h r) opened = by (o.at_most g w) refl
+      together at_l (leaving.gotof {m = m} {j = j} {g = g} {ps = ps}) ls {vs = vs} {ws = ws} (same_flag {b = b} {d = d} {s = s} {t = t} h r) opened = by (o.at_most g w) refl
         where
           by : (q : Bool) → o.at_most g w ≡ q → Both (GotoF m j) ps (Flag b ∷ s) (Flag d ∷ t) vs ws ⊎ Apart (GotoF m j) (BooleanAt g ∷ ps) ps (Flag b ∷ s) (Flag d ∷ t)
-          by true low = inl (record { next = cond b (l + 1) m; left = s; right = t; left_values = vs; right_values = ws; left_rule = rule.branch at_l; right_rule = subst (λ q. code ⊢ at l (Flag d ∷ t) ws ⟶ at (cond q (l + 1) m) t ws) (sym (h low)) (rule.branch at_l); among = either l m b; agree = r; opened = opened })
+          by true low = inl (record { next = cond b (l + 1) m; left = s; right = t; left_values = vs; right_values = ws; left_rule = rule.gotof at_l; right_rule = subst (λ q. code ⊢ at l (Flag d ∷ t) ws ⟶ at (cond q (l + 1) m) t ws) (sym (h low)) (rule.gotof at_l); among = either l m b; agree = r; opened = opened })
           by false high = inr (apart (λ low. true≢false (sym low ∙ high)) r)

@@ -1,12 +1,13 @@
 -- Each rule's test decides the relation that the rule names. Assumes nothing.
 use Rattle.std.proofs.Common.{◌≡◌, ℕ, ◌+◌, ◌-◌, ◌≤◌, Bool, true, false, not, ◌||◌, eqb, leb, List, [], ◌∷◌, ◌++◌, map, length, get_or, Some, None, Decides, Option, sym, refl, ap, ◌∙◌, subst, ⊎_elim, arith, length-append}
+use Rattle.std.specs.Option.{option_to_list}
 use Rattle.std.proofs.lemmas.Bool.{and_parts, and_from, leb-true, le-leb, eq-eqb, ne_eqb, cases_Bool, cases_eq, cond-true, cond-false, false≢true, false_from_ne_true}
 use Rattle.lattice.specs.Order.{Order}
 use Rattle.push.specs.declared.instruction.Instruction.{Instruction}
 use Rattle.push.specs.declared.instruction.Instruction.TheVariants.{Load, Store, Push, Add, Sub, Eq, Less, Not, Goto, GotoF}
 use Rattle.push.specs.declared.kind.Kind.{Kind}
 use Rattle.push.specs.declared.kind.Kind.TheVariants.{Integer, Boolean}
-use Rattle.push.specs.Language.{pops, pushes, optional, begins, successors}
+use Rattle.push.specs.Language.{pops, pushes, begins, successors}
 use Rattle.job.specs.declared.claim.Place.{Place}
 use Rattle.job.specs.declared.claim.Place.TheVariants.{IntegerAt, BooleanAt}
 use Rattle.job.specs.Records.{Claimed, kind}
@@ -36,12 +37,12 @@ pub decides_fits : (c : Claimed) (i : Instruction) → Decides (fits_its_stack c
 decides_fits c i =
     let kinds = map kind c.stack in (
       λ h.
-          let p = and_parts (begins (pops i) kinds) (leb (length (optional (pushes i)) + (length kinds - length (pops i))) 8) h in
+          let p = and_parts (begins (pops i) kinds) (leb (length (option_to_list (pushes i)) + (length kinds - length (pops i))) 8) h in
           let r = begun (pops i) kinds p.0 in
-          record { rest = r.0; popped = r.1; room = omega (arith, leb-true (length (optional (pushes i)) + (length kinds - length (pops i))) 8 p.1, ap length r.1, length-append (pops i) r.0) },
+          record { rest = r.0; popped = r.1; room = omega (arith, leb-true (length (option_to_list (pushes i)) + (length kinds - length (pops i))) 8 p.1, ap length r.1, length-append (pops i) r.0) },
       λ k.
-          and_from (begins (pops i) kinds) (leb (length (optional (pushes i)) + (length kinds - length (pops i))) 8) (ap (begins (pops i)) k.popped ∙ begins_with (pops i) k.rest)
-          (le-leb (length (optional (pushes i)) + (length kinds - length (pops i))) 8 (omega (arith, k.room, ap length k.popped, length-append (pops i) k.rest))),
+          and_from (begins (pops i) kinds) (leb (length (option_to_list (pushes i)) + (length kinds - length (pops i))) 8) (ap (begins (pops i)) k.popped ∙ begins_with (pops i) k.rest)
+          (le-leb (length (option_to_list (pushes i)) + (length kinds - length (pops i))) 8 (omega (arith, k.room, ap length k.popped, length-append (pops i) k.rest))),
     )
 
 pub decides_stores : (o : Order) (levels : List ℕ) (c : Claimed) (i : Instruction) → Decides (stores_upward o levels c i) (StoresUpward o levels c i)

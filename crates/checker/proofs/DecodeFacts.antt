@@ -1,9 +1,9 @@
 -- Decoding a job's instructions one record at a time. Assumes nothing.
 use Rattle.std.proofs.Common.{◌≡◌, ℕ, ◌+◌, List, [], ◌∷◌, ◌++◌, Some, None, Ok, Err, Option, Result, refl, ap, ◌∙◌, add-one}
+use Rattle.std.specs.Option.{option_to_list}
 use Rattle.std.specs.Result.{MatchResult, IsErrAnd}
 use Rattle.std.proofs.lemmas.Result.{err_from_is_err_and}
 use Rattle.push.specs.declared.instruction.Instruction.{Instruction}
-use Rattle.push.specs.Language.{optional}
 use Rattle.job.specs.declared.fault.RecordFault.{RecordFault}
 use Rattle.job.specs.declared.fault.RecordFault.TheVariants as faults
 use Rattle.job.specs.Faults.{record_number}
@@ -20,7 +20,7 @@ module _ (bytes : List ℕ) (s : Sizes) where
 
   pub code_more : (n : ℕ) (i : Instruction) → instruction_at bytes s n ≡ Some i → code_below bytes s (n + 1) ≡ code_below bytes s n ++ (i ∷ [])
   unfolding code_below
-  code_more n i e = ap (code_below bytes s) (add-one n) ∙ ap (λ o. code_below bytes s n ++ optional o) e
+  code_more n i e = ap (code_below bytes s) (add-one n) ∙ ap (λ o. code_below bytes s n ++ option_to_list o) e
 
 -- what a decoded record and a faulty one tell
 pub was_read : (o : Option Instruction) (i : Instruction) → Ok i ≡ instruction_read o → o ≡ Some i

@@ -1,13 +1,13 @@
 -- The verdict accepts exactly the jobs that decode and are well claimed, and names the first broken rule of any other.
 -- Assumes nothing.
 use Rattle.std.proofs.Common.{◌≡◌, ℕ, zero, suc, ◌+◌, ◌*◌, ◌<◌, ◌≤◌, Bool, true, false, cond, eqb, ◌≢◌, ◌⊎◌, List, [], ◌∷◌, length, get_or, Some, None, Ok, Err, Option, Result, sym, refl, ap, ◌∙◌, subst, ap₂, inl, inr, ⊎_elim, arith, length-append}
+use Rattle.std.specs.Option.{option_to_list}
 use Rattle.std.proofs.lemmas.Bool.{eq-eqb, ne_eqb, cases_Bool, cases_eq, cond-true, cond-false, false≢true}
 use Rattle.std.proofs.lemmas.Bool.Decides.{nat_tests}
 use Rattle.lattice.specs.Order.{Order}
 use Rattle.push.specs.declared.instruction.Instruction.{Instruction}
 use Rattle.push.specs.declared.instruction.Instruction.TheVariants.{Load, Store, Push, Add, Sub, Eq, Less, Not, Goto, GotoF}
 use Rattle.push.specs.Code.{fetch}
-use Rattle.push.specs.Language.{optional}
 use Rattle.job.specs.Layout.{Sizes, sized, opening, claim_record}
 use Rattle.job.specs.declared.fault.ReadFault.{ReadFault}
 use Rattle.job.specs.Records.{Claimed, like_a_claim}
@@ -211,10 +211,10 @@ code_few : (bytes : List ℕ) (s : Sizes) (n : ℕ) → length (code_below bytes
 unfolding code_below
 code_few bytes s zero = omega arith
 code_few bytes s (suc n) =
-    let one : length (optional (instruction_at bytes s n)) ≤ 1 = at_most_one (instruction_at bytes s n) in
-    omega (arith, length-append (code_below bytes s n) (optional (instruction_at bytes s n)), code_few bytes s n)
+    let one : length (option_to_list (instruction_at bytes s n)) ≤ 1 = at_most_one (instruction_at bytes s n) in
+    omega (arith, length-append (code_below bytes s n) (option_to_list (instruction_at bytes s n)), code_few bytes s n)
   where
-    at_most_one : (oi : Option Instruction) → length (optional oi) ≤ 1
+    at_most_one : (oi : Option Instruction) → length (option_to_list oi) ≤ 1
     at_most_one None = omega arith
     at_most_one (Some i) = omega arith
 

@@ -24,10 +24,10 @@ pub data Leaves (o : Order) (levels : List ℕ) (p : ℕ) : Instruction → List
   add : {a b : ℕ} {ps : List Place} → Leaves o levels p Add (IntegerAt a ∷ IntegerAt b ∷ ps) (IntegerAt (o.join (o.join a b) p) ∷ ps)
   sub : {a b : ℕ} {ps : List Place} → Leaves o levels p Sub (IntegerAt a ∷ IntegerAt b ∷ ps) (IntegerAt (o.join (o.join a b) p) ∷ ps)
   eq : {a b : ℕ} {ps : List Place} → Leaves o levels p Eq (IntegerAt a ∷ IntegerAt b ∷ ps) (BooleanAt (o.join (o.join a b) p) ∷ ps)
-  lower : {a b : ℕ} {ps : List Place} → Leaves o levels p Less (IntegerAt a ∷ IntegerAt b ∷ ps) (BooleanAt (o.join (o.join a b) p) ∷ ps)
-  turn : {a : ℕ} {ps : List Place} → Leaves o levels p Not (BooleanAt a ∷ ps) (BooleanAt (o.join a p) ∷ ps)
+  less : {a b : ℕ} {ps : List Place} → Leaves o levels p Less (IntegerAt a ∷ IntegerAt b ∷ ps) (BooleanAt (o.join (o.join a b) p) ∷ ps)
+  not : {a : ℕ} {ps : List Place} → Leaves o levels p Not (BooleanAt a ∷ ps) (BooleanAt (o.join a p) ∷ ps)
   goto : {m : ℕ} {ps : List Place} → Leaves o levels p (Goto m) ps ps
-  branch : {m j g : ℕ} {ps : List Place} → Leaves o levels p (GotoF m j) (BooleanAt g ∷ ps) ps
+  gotof : {m j g : ℕ} {ps : List Place} → Leaves o levels p (GotoF m j) (BooleanAt g ∷ ps) ps
 
 -- what an instruction finds on top of the claimed places
 data OneInteger : List Place → Type 0 where
@@ -130,16 +130,16 @@ module _ (o : Order) (laws : Laws o) where
     kept_leaves ps Less sound.less ls f st = by (two_integers ps f.rest f.popped)
       where
         by : {qs : List Place} → TwoIntegers qs → LeftBy levels job (claim_of qs) Less
-        by (two {a = a} {b = b} {ps = qs}) = record { places = BooleanAt (o.join (o.join a b) p) ∷ qs; left = lower; taken = under_same Less (BooleanAt (o.join (o.join a b) p) ∷ []) (IntegerAt a ∷ IntegerAt b ∷ qs) (λ q. refl) qs }
-    kept_leaves ps Not sound.turn ls f st = by (one_boolean ps f.rest f.popped)
+        by (two {a = a} {b = b} {ps = qs}) = record { places = BooleanAt (o.join (o.join a b) p) ∷ qs; left = less; taken = under_same Less (BooleanAt (o.join (o.join a b) p) ∷ []) (IntegerAt a ∷ IntegerAt b ∷ qs) (λ q. refl) qs }
+    kept_leaves ps Not sound.not ls f st = by (one_boolean ps f.rest f.popped)
       where
         by : {qs : List Place} → OneBoolean qs → LeftBy levels job (claim_of qs) Not
-        by (flag {a = a} {ps = qs}) = record { places = BooleanAt (o.join a p) ∷ qs; left = turn; taken = under_same Not (BooleanAt (o.join a p) ∷ []) (BooleanAt a ∷ qs) (λ q. refl) qs }
+        by (flag {a = a} {ps = qs}) = record { places = BooleanAt (o.join a p) ∷ qs; left = not; taken = under_same Not (BooleanAt (o.join a p) ∷ []) (BooleanAt a ∷ qs) (λ q. refl) qs }
     kept_leaves ps (Goto m) (sound.goto small) ls f st = record { places = ps; left = goto; taken = under_same (Goto m) [] ps (λ q. refl) ps }
-    kept_leaves ps (GotoF m j) (sound.branch small) ls f st = by (one_boolean ps f.rest f.popped) ls
+    kept_leaves ps (GotoF m j) (sound.gotof small) ls f st = by (one_boolean ps f.rest f.popped) ls
       where
         by : {qs : List Place} → OneBoolean qs → Levels o qs → LeftBy levels job (claim_of qs) (GotoF m j)
-        by (flag {a = g} {ps = qs}) (sound.more hg hs) = record { places = qs; left = branch; taken = λ next t. without next t }
+        by (flag {a = g} {ps = qs}) (sound.more hg hs) = record { places = qs; left = gotof; taken = λ next t. without next t }
           where
             without : (next : ℕ) → Takes o job (map (raised_to o g) qs) next → Takes o job qs next
             without next (at_exit e none_left) = at_exit e (emptied qs none_left)

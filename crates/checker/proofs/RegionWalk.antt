@@ -1,6 +1,6 @@
 -- One run in the region of a branch on a closed boolean: it changes no open variable, and it comes to the junction with
 -- some closed places on top of an end of the stack that the branch left. Assumes the laws of the order.
-use Rattle.std.proofs.Common.{◌≡◌, ℕ, ◌+◌, ◌<◌, ◌≤◌, Bool, true, false, cond, not, eqb, ◌⊎◌, List, ◌∷◌, length, get_or, set, ℤ, pos, Some, sym, refl, ap, ◌∙◌, subst, inl, inr, arith}
+use Rattle.std.proofs.Common.{◌≡◌, ℕ, ◌+◌, ◌<◌, ◌≤◌, Bool, true, false, cond, not, eqb, ◌⊎◌, List, ◌∷◌, length, get_or, set, ℤ, pos, int_lt, Some, sym, refl, ap, ◌∙◌, subst, inl, inr, arith}
 use Rattle.std.proofs.lemmas.Bool.{eqb-true, eqb-false}
 use Rattle.std.proofs.lemmas.List.{set-get_or}
 use Rattle.lattice.specs.Order.{Order, Laws}
@@ -11,7 +11,7 @@ use Rattle.push.specs.declared.value.Value.{Value}
 use Rattle.push.specs.declared.value.Value.TheVariants.{Int, Flag}
 use Rattle.push.specs.Code.{fetch}
 use Rattle.push.specs.Language.{successors}
-use Rattle.push.specs.Numbers.{sum, difference, same, less}
+use Rattle.push.specs.Numbers.{sum, difference, same}
 use Rattle.push.specs.Machine as rule
 use Rattle.push.specs.Machine.{Machine, at, ◌⊢◌⟶◌, step}
 use Rattle.push.specs.Run as steps
@@ -123,14 +123,14 @@ module _ (o : Order) (w : ℕ) where
           record { next = l + 1; stack = Int (difference u x) ∷ t; values = vs; by_rule = rule.sub at_l; among = here; fits = fits_int f; keeps = above (closed_join (o.join a b) (join_level o laws a b ha hb)) (keeps_pop (keeps_pop k)); unchanged = same_here vs sized }
       hidden_step at_l (leaving.eq {a = a} {b = b}) (sound.more ha (sound.more hb ls)) vs sized (fits_int {x = x} (fits_int {x = u} {s = t} f)) k =
           record { next = l + 1; stack = Flag (same u x) ∷ t; values = vs; by_rule = rule.eq at_l; among = here; fits = fits_flag f; keeps = above (closed_join (o.join a b) (join_level o laws a b ha hb)) (keeps_pop (keeps_pop k)); unchanged = same_here vs sized }
-      hidden_step at_l (leaving.lower {a = a} {b = b}) (sound.more ha (sound.more hb ls)) vs sized (fits_int {x = x} (fits_int {x = u} {s = t} f)) k =
-          record { next = l + 1; stack = Flag (less u x) ∷ t; values = vs; by_rule = rule.lower at_l; among = here; fits = fits_flag f; keeps = above (closed_join (o.join a b) (join_level o laws a b ha hb)) (keeps_pop (keeps_pop k)); unchanged = same_here vs sized }
-      hidden_step at_l (leaving.turn {a = a}) (sound.more ha ls) vs sized (fits_flag {b = b} {s = t} f) k =
-          record { next = l + 1; stack = Flag (not b) ∷ t; values = vs; by_rule = rule.turn at_l; among = here; fits = fits_flag f; keeps = above (closed_join a ha) (keeps_pop k); unchanged = same_here vs sized }
+      hidden_step at_l (leaving.less {a = a} {b = b}) (sound.more ha (sound.more hb ls)) vs sized (fits_int {x = x} (fits_int {x = u} {s = t} f)) k =
+          record { next = l + 1; stack = Flag (int_lt u x) ∷ t; values = vs; by_rule = rule.less at_l; among = here; fits = fits_flag f; keeps = above (closed_join (o.join a b) (join_level o laws a b ha hb)) (keeps_pop (keeps_pop k)); unchanged = same_here vs sized }
+      hidden_step at_l (leaving.not {a = a}) (sound.more ha ls) vs sized (fits_flag {b = b} {s = t} f) k =
+          record { next = l + 1; stack = Flag (not b) ∷ t; values = vs; by_rule = rule.not at_l; among = here; fits = fits_flag f; keeps = above (closed_join a ha) (keeps_pop k); unchanged = same_here vs sized }
       hidden_step {t = t} at_l (leaving.goto {m = m}) ls vs sized f k =
           record { next = m; stack = t; values = vs; by_rule = rule.goto at_l; among = here; fits = f; keeps = k; unchanged = same_here vs sized }
-      hidden_step at_l (leaving.branch {m = m}) ls vs sized (fits_flag {b = b} {s = t} f) k =
-          record { next = cond b (l + 1) m; stack = t; values = vs; by_rule = rule.branch at_l; among = either l m b; fits = f; keeps = keeps_pop k; unchanged = same_here vs sized }
+      hidden_step at_l (leaving.gotof {m = m}) ls vs sized (fits_flag {b = b} {s = t} f) k =
+          record { next = cond b (l + 1) m; stack = t; values = vs; by_rule = rule.gotof at_l; among = either l m b; fits = f; keeps = keeps_pop k; unchanged = same_here vs sized }
 
 -- The walk from a label of the region, or from the junction at once, to the junction.
 module _ (o : Order) (laws : Laws o) (w : ℕ) (levels : List ℕ) (graded : LevelsOfVariables o levels) (job : ProgramWithClaims) (acc : Accepted o levels job) (from j g : ℕ) (avoids : Region job.code j from (exit job) → ⊥) (raised : (inside : ℕ) → Region job.code j from inside → inside < exit job → Surrounded o job g inside) (closed : o.at_most g w ≡ true → ⊥) where

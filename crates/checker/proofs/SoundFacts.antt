@@ -1,5 +1,6 @@
 -- A job that decodes has sound instructions and claims over the lattice's levels. Assumes nothing.
 use Rattle.std.proofs.Common.{◌≡◌, ℕ, zero, suc, ◌+◌, ◌*◌, ◌<◌, ◌≤◌, Bool, true, false, cond, ◌&&◌, eqb, ltb, leb, List, [], ◌∷◌, ◌++◌, length, get_or, drop, ℤ, pos, negsuc, Some, None, Option, sym, refl, ap, ◌∙◌, subst, add-one, arith, length-append, w32, to_z}
+use Rattle.std.specs.Option.{option_to_list}
 use Rattle.std.specs.List.{AllByRecursion as All}
 use Rattle.std.proofs.lemmas.List.FromFn.{map-range_with_len_more}
 use Rattle.std.proofs.ByRecursion.{All-append}
@@ -8,7 +9,6 @@ use Rattle.lattice.specs.Order.{Order}
 use Rattle.push.specs.declared.instruction.Instruction.{Instruction}
 use Rattle.push.specs.declared.instruction.Instruction.TheVariants.{Load, Store, Push, Add, Sub, Eq, Less, Not, Goto, GotoF}
 use Rattle.push.specs.Code.{fetch}
-use Rattle.push.specs.Language.{optional}
 use Rattle.job.specs.declared.claim.Place.{Place}
 use Rattle.job.specs.declared.claim.Place.TheVariants.{IntegerAt, BooleanAt}
 use Rattle.job.specs.Layout.{Sizes, instruction_record, claim_record}
@@ -25,9 +25,9 @@ pub data Sound (exit : ℕ) : Instruction → Type 0 where
   sub : Sound exit Sub
   eq : Sound exit Eq
   less : Sound exit Less
-  turn : Sound exit Not
+  not : Sound exit Not
   goto : {m : ℕ} → m ≤ exit → Sound exit (Goto m)
-  branch : {m j : ℕ} → m ≤ exit → Sound exit (GotoF m j)
+  gotof : {m j : ℕ} → m ≤ exit → Sound exit (GotoF m j)
 
 -- Places whose levels are levels of the lattice.
 pub data Levels (o : Order) : List Place → Type 0 where
@@ -41,7 +41,7 @@ up_to_is limit (negsuc n) h = absurd (false≢true h)
 -- What a record says, if anything, is sound.
 module _ (exit : ℕ) where
   abbrev SaysSound : Option Instruction → Type 0
-  SaysSound oi = All (Sound exit) (optional oi)
+  SaysSound oi = All (Sound exit) (option_to_list oi)
 
   either : (b : Bool) (x y : Option Instruction) → SaysSound x → SaysSound y → SaysSound (cond b x y)
   either true x y h k = h
@@ -64,9 +64,9 @@ module _ (exit : ℕ) where
       (either (eqb operation 5) _ _ (given_sound bare Sub (λ _. sub))
       (either (eqb operation 6) _ _ (given_sound bare Eq (λ _. eq))
       (either (eqb operation 7) _ _ (given_sound bare Less (λ _. less))
-      (either (eqb operation 8) _ _ (given_sound bare Not (λ _. turn))
+      (either (eqb operation 8) _ _ (given_sound bare Not (λ _. not))
       (either (eqb operation 9) _ _ (given_sound (none_else && up_to exit operand) (Goto (natural operand)) (λ h. goto (up_to_is exit operand (and_parts none_else (up_to exit operand) h).1)))
-      (either (eqb operation 10) _ _ (given_sound (leb junction exit && up_to exit operand) (GotoF (natural operand) junction) (λ h. branch (up_to_is exit operand (and_parts (leb junction exit) (up_to exit operand) h).1))) tt)))))))))
+      (either (eqb operation 10) _ _ (given_sound (leb junction exit && up_to exit operand) (GotoF (natural operand) junction) (λ h. gotof (up_to_is exit operand (and_parts (leb junction exit) (up_to exit operand) h).1))) tt)))))))))
 
   record_sound : (bytes : List ℕ) → SaysSound (instruction_in exit bytes)
   record_sound [] = tt
@@ -87,7 +87,7 @@ code_sound : (bytes : List ℕ) (s : Sizes) (n : ℕ) → All (Sound s.instructi
 unfolding code_below
 code_sound bytes s zero = tt
 code_sound bytes s (suc n) =
-    All-append (Sound s.instructions) (code_below bytes s n) (optional (instruction_at bytes s n)) (code_sound bytes s n) (record_sound s.instructions (instruction_record bytes n))
+    All-append (Sound s.instructions) (code_below bytes s n) (option_to_list (instruction_at bytes s n)) (code_sound bytes s n) (record_sound s.instructions (instruction_record bytes n))
 
 -- One more place under the others.
 one_under : (o : Order) (ps : List Place) (p : Place) → Levels o ps → level p < o.span → Levels o (ps ++ p ∷ [])
@@ -135,8 +135,8 @@ module _ (o : Order) (bytes : List ℕ) (s : Sizes) (d : Decodes o bytes s) wher
   unfolding code_below
   long zero h = refl
   long (suc n) h =
-      let one : length (optional (instruction_at bytes s n)) ≡ 1 = ap (λ oi. length (optional oi)) (d.instructions n h).read in
-      omega (arith, length-append (code_below bytes s n) (optional (instruction_at bytes s n)), long n (omega arith))
+      let one : length (option_to_list (instruction_at bytes s n)) ≡ 1 = ap (λ oi. length (option_to_list oi)) (d.instructions n h).read in
+      omega (arith, length-append (code_below bytes s n) (option_to_list (instruction_at bytes s n)), long n (omega arith))
 
   pub exit_is : length (code_below bytes s s.instructions) ≡ s.instructions
   exit_is = long s.instructions (omega arith)

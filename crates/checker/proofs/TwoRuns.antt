@@ -79,8 +79,8 @@ module _ (o : Order) (laws : Laws o) (w : ℕ) (levels : List ℕ) (graded : Lev
         let avoids = branch.avoids target junction refl in
         let keeps_left = low (kept (under_itself ps ls)) in
         let keeps_right = low (kept (under_itself ps ls)) in
-        let goes_left = one_way job.code (at l (Flag b ∷ s) vs) m (at (cond b (l + 1) target) s vs) first (rule.branch at_l) in
-        let goes_right = one_way job.code (at l (Flag d ∷ t) ws) n (at (cond d (l + 1) target) t ws) second (rule.branch at_l) in
+        let goes_left = one_way job.code (at l (Flag b ∷ s) vs) m (at (cond b (l + 1) target) s vs) first (rule.gotof at_l) in
+        let goes_right = one_way job.code (at l (Flag d ∷ t) ws) n (at (cond d (l + 1) target) t ws) second (rule.gotof at_l) in
         let left = reach o laws w levels graded job acc l junction g avoids raised closed run_left halts_left (cond b (l + 1) target) ps ps s s vs goes_left (entered (cond b (l + 1) target) (eqb (cond b (l + 1) target) junction) refl (among b)) (taken (cond b (l + 1) target) (either l target b)) (left_fits o w r) keeps_left sized_left in
         let right = reach o laws w levels graded job acc l junction g avoids raised closed run_right halts_right (cond d (l + 1) target) ps ps t t ws goes_right (entered (cond d (l + 1) target) (eqb (cond d (l + 1) target) junction) refl (among d)) (taken (cond d (l + 1) target) (either l target d)) (right_fits o w r) keeps_right sized_right in
         record {

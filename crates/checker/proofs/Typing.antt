@@ -1,6 +1,6 @@
 -- At a claimed label the stack has the claim's depth and kinds, and a step keeps this; so no run of an accepted job
 -- faults. Assumes the laws of the order.
-use Rattle.std.proofs.Common.{◌≡◌, ℕ, ◌+◌, ◌<◌, ◌≤◌, Bool, true, false, cond, not, ◌⊎◌, List, [], ◌∷◌, length, get_or, set, ℤ, pos, Some, sym, refl, ap, ◌∙◌, subst, inl, inr, ⊎_elim, arith}
+use Rattle.std.proofs.Common.{◌≡◌, ℕ, ◌+◌, ◌<◌, ◌≤◌, Bool, true, false, cond, not, ◌⊎◌, List, [], ◌∷◌, length, get_or, set, ℤ, pos, int_lt, Some, sym, refl, ap, ◌∙◌, subst, inl, inr, ⊎_elim, arith}
 use Rattle.std.proofs.lemmas.Bool.{cases_lt}
 use Rattle.lattice.specs.Order.{Order, Laws}
 use Rattle.push.specs.declared.instruction.Instruction.{Instruction}
@@ -9,7 +9,7 @@ use Rattle.push.specs.declared.value.Value.{Value}
 use Rattle.push.specs.declared.value.Value.TheVariants.{Int, Flag}
 use Rattle.push.specs.Code.{fetch}
 use Rattle.push.specs.Language.{successors}
-use Rattle.push.specs.Numbers.{sum, difference, same, less}
+use Rattle.push.specs.Numbers.{sum, difference, same}
 use Rattle.push.specs.Machine as rule
 use Rattle.push.specs.Machine.{Machine, at, ◌⊢◌⟶◌, perform, step}
 use Rattle.push.specs.Run as steps
@@ -73,10 +73,10 @@ module _ (o : Order) (levels : List ℕ) (code : List Instruction) (p l : ℕ) w
   goes at_l leaving.add vs (fits_int {x = t} (fits_int {x = u} {s = s} f)) = record { next = l + 1; stack = Int (sum u t) ∷ s; values = vs; by_rule = rule.add at_l; among = here; fits = fits_int f }
   goes at_l leaving.sub vs (fits_int {x = t} (fits_int {x = u} {s = s} f)) = record { next = l + 1; stack = Int (difference u t) ∷ s; values = vs; by_rule = rule.sub at_l; among = here; fits = fits_int f }
   goes at_l leaving.eq vs (fits_int {x = t} (fits_int {x = u} {s = s} f)) = record { next = l + 1; stack = Flag (same u t) ∷ s; values = vs; by_rule = rule.eq at_l; among = here; fits = fits_flag f }
-  goes at_l leaving.lower vs (fits_int {x = t} (fits_int {x = u} {s = s} f)) = record { next = l + 1; stack = Flag (less u t) ∷ s; values = vs; by_rule = rule.lower at_l; among = here; fits = fits_flag f }
-  goes at_l leaving.turn vs (fits_flag {b = b} {s = s} f) = record { next = l + 1; stack = Flag (not b) ∷ s; values = vs; by_rule = rule.turn at_l; among = here; fits = fits_flag f }
+  goes at_l leaving.less vs (fits_int {x = t} (fits_int {x = u} {s = s} f)) = record { next = l + 1; stack = Flag (int_lt u t) ∷ s; values = vs; by_rule = rule.less at_l; among = here; fits = fits_flag f }
+  goes at_l leaving.not vs (fits_flag {b = b} {s = s} f) = record { next = l + 1; stack = Flag (not b) ∷ s; values = vs; by_rule = rule.not at_l; among = here; fits = fits_flag f }
   goes at_l (leaving.goto {m = m}) {s} vs f = record { next = m; stack = s; values = vs; by_rule = rule.goto at_l; among = here; fits = f }
-  goes at_l (leaving.branch {m = m}) vs (fits_flag {b = b} {s = s} f) = record { next = cond b (l + 1) m; stack = s; values = vs; by_rule = rule.branch at_l; among = either l m b; fits = f }
+  goes at_l (leaving.gotof {m = m}) vs (fits_flag {b = b} {s = s} f) = record { next = cond b (l + 1) m; stack = s; values = vs; by_rule = rule.gotof at_l; among = either l m b; fits = f }
 
 -- What acceptance tells of a job.
 pub record Accepted (o : Order) (levels : List ℕ) (job : ProgramWithClaims) : Type 0 where
@@ -98,8 +98,8 @@ successors_within n l next Eq h lt a = omega (arith, only a)
 successors_within n l next Less h lt a = omega (arith, only a)
 successors_within n l next Not h lt a = omega (arith, only a)
 successors_within n l next (Goto m) (sound.goto h) lt a = omega (arith, only a)
-successors_within n l next (GotoF m j) (sound.branch h) lt here = omega arith
-successors_within n l next (GotoF m j) (sound.branch h) lt (there a) = omega (arith, only a)
+successors_within n l next (GotoF m j) (sound.gotof h) lt here = omega arith
+successors_within n l next (GotoF m j) (sound.gotof h) lt (there a) = omega (arith, only a)
 
 module _ (o : Order) (laws : Laws o) (levels : List ℕ) (job : ProgramWithClaims) (acc : Accepted o levels job) where
   -- What a claimed label with an instruction leaves.

@@ -1,9 +1,9 @@
 -- What leaves a claimed label: the stack after its instruction, in kinds and levels. Assumes nothing.
-use Rattle.std.specs.Prelude.{ℕ, Bool, true, false, ◌&&◌, List, [], ◌∷◌, ◌++◌, map, length, drop, Some, None, Option, slice_index, slice_index_or}
+use Rattle.std.specs.Prelude.{ℕ, Bool, true, false, ◌&&◌, List, [], ◌∷◌, ◌++◌, map, length, drop, Some, None, Option, slice_index, slice_index_or, option_to_list}
 use Rattle.lattice.specs.Order.{Order}
 use Rattle.push.specs.declared.instruction.Instruction.{Instruction}
 use Rattle.push.specs.declared.instruction.Instruction.TheVariants.{Load, Store, Push, Add, Sub, Eq, Less, Not, Goto, GotoF}
-use Rattle.push.specs.Language.{pops, optional}
+use Rattle.push.specs.Language.{pops}
 use Rattle.job.specs.declared.claim.Place.{Place}
 use Rattle.job.specs.declared.claim.Place.TheVariants.{IntegerAt, BooleanAt}
 use Rattle.job.specs.Records.{Claimed, level}
@@ -50,7 +50,7 @@ raised o c (Goto _) p = p
 raised o c (GotoF _ _) p = raised_to o (level_at c.stack 0) p
 
 abbrev pub leaves : Order → List ℕ → Claimed → Instruction → List Place
-leaves o levels c i = optional (pushed o levels c i) ++ map (raised o c i) (drop (length (pops i)) c.stack)
+leaves o levels c i = option_to_list (pushed o levels c i) ++ map (raised o c i) (drop (length (pops i)) c.stack)
 
 -- Each leaving place has the claimed kind, and a level at most the claimed one.
 abbrev pub fits_under : Order → Place → Place → Bool

@@ -1,10 +1,9 @@
 -- The verdict on a job: the number and the label of the first rule that it breaks. Assumes nothing.
-use Rattle.std.specs.Prelude.{ℕ, zero, suc, Bool, false, cond, not, ◌||◌, List, [], ◌++◌, Some, None, Ok, Err, Option, Result, ◌==◌, slice_index_or}
+use Rattle.std.specs.Prelude.{ℕ, zero, suc, Bool, false, cond, not, ◌||◌, List, [], ◌++◌, Some, None, Ok, Err, Option, Result, ◌==◌, slice_index_or, option_to_list}
 use Rattle.lattice.specs.Order.{Order}
 use Rattle.push.specs.declared.instruction.Instruction.{Instruction}
 use Rattle.push.specs.declared.instruction.Instruction.TheVariants.{Load, Store, Push, Add, Sub, Eq, Less, Not, Goto, GotoF}
 use Rattle.push.specs.Code.{fetch}
-use Rattle.push.specs.Language.{optional}
 use Rattle.job.specs.declared.fault.ReadFault.{ReadFault}
 use Rattle.job.specs.Faults.{read_number}
 use Rattle.job.specs.Layout.{Sizes, opening, instruction_record, claim_record}
@@ -78,7 +77,7 @@ claim_rule o bytes s label = cond (like_a_claim o.span s.places (claim_record by
 -- The instructions of the first n records that say one.
 unfoldable pub code_below : List ℕ → Sizes → ℕ → List Instruction
 code_below bytes s zero = []
-code_below bytes s (suc n) = code_below bytes s n ++ optional (instruction_at bytes s n)
+code_below bytes s (suc n) = code_below bytes s n ++ option_to_list (instruction_at bytes s n)
 
 abbrev pub claimed_job : List Instruction → List ℕ → Sizes → ProgramWithClaims
 claimed_job code bytes s = record { code = code; claim = λ label. claim_in (claim_record bytes s label) }

@@ -1,11 +1,11 @@
 -- What the claims of a job must satisfy, as relations, and what the verdict says of them. Assumes nothing.
-use Rattle.std.specs.Prelude.{◌≡◌, ℕ, ◌+◌, ◌<◌, ◌≤◌, true, ◌≢◌, ◌⊎◌, List, [], ◌∷◌, ◌++◌, map, length, Some, Ok, Err, slice_index}
+use Rattle.std.specs.Prelude.{◌≡◌, ℕ, ◌+◌, ◌<◌, ◌≤◌, true, ◌≢◌, ◌⊎◌, List, [], ◌∷◌, ◌++◌, map, length, Some, Ok, Err, slice_index, option_to_list}
 use Rattle.lattice.specs.Order.{Order}
 use Rattle.push.specs.declared.instruction.Instruction.{Instruction}
 use Rattle.push.specs.declared.instruction.Instruction.TheVariants.{Store, GotoF}
 use Rattle.push.specs.declared.kind.Kind.{Kind}
 use Rattle.push.specs.Code.{fetch}
-use Rattle.push.specs.Language.{pops, pushes, optional, successors}
+use Rattle.push.specs.Language.{pops, pushes, successors}
 use Rattle.job.specs.declared.claim.Place.{Place}
 use Rattle.job.specs.declared.claim.Place.TheVariants.{IntegerAt, BooleanAt}
 use Rattle.job.specs.declared.fault.ReadFault.{ReadFault}
@@ -21,7 +21,7 @@ use Rattle.checker.specs.Verdict.{instruction_at, job_in, verdict}
 pub record FitsItsStack (c : Claimed) (i : Instruction) : Type 0 where
   pub rest : List Kind
   pub popped : map kind c.stack ≡ pops i ++ rest
-  pub room : length (optional (pushes i)) + length rest ≤ 8
+  pub room : length (option_to_list (pushes i)) + length rest ≤ 8
 
 -- What is stored is, joined with the surrounding level, at most the variable's level.
 abbrev pub StoresUpward : Order → List ℕ → Claimed → Instruction → Type 0

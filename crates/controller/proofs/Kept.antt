@@ -54,10 +54,10 @@ rule_keeps_length (rule.push a b) = refl
 rule_keeps_length (rule.add a) = refl
 rule_keeps_length (rule.sub a) = refl
 rule_keeps_length (rule.eq a) = refl
-rule_keeps_length (rule.lower a) = refl
-rule_keeps_length (rule.turn a) = refl
+rule_keeps_length (rule.less a) = refl
+rule_keeps_length (rule.not a) = refl
 rule_keeps_length (rule.goto a) = refl
-rule_keeps_length (rule.branch a) = refl
+rule_keeps_length (rule.gotof a) = refl
 
 steps_keep_length : {code : List Instruction} {k : ℕ} {m n : Machine} → Steps code k m n → length (values_of n) ≡ length (values_of m)
 steps_keep_length runs.none = refl

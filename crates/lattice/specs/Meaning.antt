@@ -1,12 +1,12 @@
 -- What the kinds mean in the subject's words, as theorems about their definitions. Assumes nothing.
 use Rattle.std.specs.Prelude.{◌≡◌, ℕ, ◌/◌, ◌%◌, ◌^◌, ◌<◌, ◌≤◌, true, Decides}
-use Rattle.lattice.specs.Order.{Order, Laws, Alike}
+use Rattle.lattice.specs.Order.{Order, Laws, SameAnswers}
 use Rattle.lattice.specs.Kinds.{ladder, owners, owners_span, pair, pair_span}
 
 -- The span and at_most are the whole meaning: lawful orders that agree in these two agree in all six answers.
 abbrev pub SpanAndAtMostDecide : Type 0
 SpanAndAtMostDecide =
-    (o p : Order) → Laws o → Laws p → o.span ≡ p.span → ((a b : ℕ) → o.at_most a b ≡ p.at_most a b) → Alike o p
+    (o p : Order) → Laws o → Laws p → o.span ≡ p.span → ((a b : ℕ) → o.at_most a b ≡ p.at_most a b) → SameAnswers o p
 
 abbrev pub LadderGoesByNumber : Type 0
 LadderGoesByNumber = (grades a b : ℕ) → grades ≤ 65535 → Decides ((ladder grades).at_most a b) ((a < grades) × (b < grades) × (a ≤ b))

@@ -32,7 +32,7 @@ pub record Laws (o : Order) : Type 0 where
   pub highest_of_none : o.span ≡ 0 → o.highest ≡ 0
 
 -- Two orders that answer every question alike.
-pub record Alike (o p : Order) : Type 0 where
+pub record SameAnswers (o p : Order) : Type 0 where
   pub span : o.span ≡ p.span
   pub at_most : (a b : ℕ) → o.at_most a b ≡ p.at_most a b
   pub join : (a b : ℕ) → o.join a b ≡ p.join a b

@@ -1,5 +1,5 @@
 -- The function `step` follows the rules, and only them. Assumes nothing.
-use Rattle.std.proofs.Common.{◌≡◌, ℕ, ◌+◌, ◌<◌, Bool, true, false, cond, ltb, List, [], ◌∷◌, length, ℤ, Some, None, Option, refl, ap, ◌∙◌, subst}
+use Rattle.std.proofs.Common.{◌≡◌, ℕ, ◌+◌, ◌<◌, Bool, true, false, cond, ltb, List, [], ◌∷◌, length, ℤ, Some, None, Option, int_lt, refl, ap, ◌∙◌, subst}
 use Rattle.std.proofs.lemmas.Bool.{lt-ltb, ltb-true, cond-true}
 use Rattle.std.proofs.lemmas.Option.{none-some, same_Some}
 use Rattle.push.specs.declared.instruction.Instruction.{Instruction}
@@ -7,8 +7,8 @@ use Rattle.push.specs.declared.instruction.Instruction.TheVariants.{Load, Store,
 use Rattle.push.specs.declared.value.Value.{Value}
 use Rattle.push.specs.declared.value.Value.TheVariants.{Int, Flag}
 use Rattle.push.specs.Code.{fetch}
-use Rattle.push.specs.Machine.{Machine, at, ◌⊢◌⟶◌, load, store, push, add, sub, eq, lower, turn, goto, branch, integers_on, pushed, combined, perform, step, StepFollowsTheRules}
-use Rattle.push.specs.Numbers.{sum, difference, same, less}
+use Rattle.push.specs.Machine.{Machine, at, ◌⊢◌⟶◌, load, store, push, add, sub, eq, less, not, goto, gotof, integers_on, pushed, combined, perform, step, StepFollowsTheRules}
+use Rattle.push.specs.Numbers.{sum, difference, same}
 
 module _ (code : List Instruction) where
   room : (x : Value) (l : ℕ) (s : List Value) (vs : List ℤ) → length s < 8 → pushed x l s vs ≡ Some (at (l + 1) (x ∷ s) vs)
@@ -22,10 +22,10 @@ module _ (code : List Instruction) where
   rule_steps (add {l} {t} {u} {s} {vs} i) = ap (λ j. perform j l (Int t ∷ Int u ∷ s) vs) i
   rule_steps (sub {l} {t} {u} {s} {vs} i) = ap (λ j. perform j l (Int t ∷ Int u ∷ s) vs) i
   rule_steps (eq {l} {t} {u} {s} {vs} i) = ap (λ j. perform j l (Int t ∷ Int u ∷ s) vs) i
-  rule_steps (lower {l} {t} {u} {s} {vs} i) = ap (λ j. perform j l (Int t ∷ Int u ∷ s) vs) i
-  rule_steps (turn {l} {b} {s} {vs} i) = ap (λ j. perform j l (Flag b ∷ s) vs) i
+  rule_steps (less {l} {t} {u} {s} {vs} i) = ap (λ j. perform j l (Int t ∷ Int u ∷ s) vs) i
+  rule_steps (not {l} {b} {s} {vs} i) = ap (λ j. perform j l (Flag b ∷ s) vs) i
   rule_steps (goto {l} {m} {s} {vs} i) = ap (λ j. perform j l s vs) i
-  rule_steps (branch {l} {m} {j} {b} {s} {vs} i) = ap (λ k. perform k l (Flag b ∷ s) vs) i
+  rule_steps (gotof {l} {m} {j} {b} {s} {vs} i) = ap (λ k. perform k l (Flag b ∷ s) vs) i
 
   kept : {X : Type 0} (b : Bool) (x : Option X) (n : X) → cond b x None ≡ Some n → (b ≡ true) × (x ≡ Some n)
   kept true x n e = (refl, e)
@@ -55,14 +55,14 @@ module _ (code : List Instruction) where
   performed (Some Add) l s vs n i e = combined_by_rule (λ u t. Int (sum u t)) l s vs n (λ t u s. add i) e
   performed (Some Sub) l s vs n i e = combined_by_rule (λ u t. Int (difference u t)) l s vs n (λ t u s. sub i) e
   performed (Some Eq) l s vs n i e = combined_by_rule (λ u t. Flag (same u t)) l s vs n (λ t u s. eq i) e
-  performed (Some Less) l s vs n i e = combined_by_rule (λ u t. Flag (less u t)) l s vs n (λ t u s. lower i) e
+  performed (Some Less) l s vs n i e = combined_by_rule (λ u t. Flag (int_lt u t)) l s vs n (λ t u s. less i) e
   performed (Some Not) l [] vs n i e = absurd (none-some n e)
   performed (Some Not) l (Int t ∷ s) vs n i e = absurd (none-some n e)
-  performed (Some Not) l (Flag b ∷ s) vs n i e = by_rule (turn i) e
+  performed (Some Not) l (Flag b ∷ s) vs n i e = by_rule (not i) e
   performed (Some (Goto m)) l s vs n i e = by_rule (goto i) e
   performed (Some (GotoF m j)) l [] vs n i e = absurd (none-some n e)
   performed (Some (GotoF m j)) l (Int t ∷ s) vs n i e = absurd (none-some n e)
-  performed (Some (GotoF m j)) l (Flag b ∷ s) vs n i e = by_rule (branch i) e
+  performed (Some (GotoF m j)) l (Flag b ∷ s) vs n i e = by_rule (gotof i) e
 
   pub steps_by_rule : (m n : Machine) → step code m ≡ Some n → code ⊢ m ⟶ n
   steps_by_rule (at l s vs) n e = performed (fetch code l) l s vs n refl e

@@ -1,5 +1,5 @@
 -- The language: what each instruction pops and pushes, and where it can go. Assumes nothing.
-use Rattle.std.specs.Prelude.{ℕ, ◌+◌, ◌-◌, Bool, true, false, cond, ◌&&◌, List, [], ◌∷◌, ◌++◌, length, Some, None, Option, nat_le}
+use Rattle.std.specs.Prelude.{ℕ, ◌+◌, ◌-◌, Bool, true, false, cond, ◌&&◌, List, [], ◌∷◌, ◌++◌, length, Some, None, Option, nat_le, option_to_list}
 use Rattle.push.specs.declared.instruction.Instruction.{Instruction}
 use Rattle.push.specs.declared.instruction.Instruction.TheVariants.{Load, Store, Push, Add, Sub, Eq, Less, Not, Goto, GotoF}
 use Rattle.push.specs.declared.kind.Kind.{Kind}
@@ -55,14 +55,9 @@ target Not = None
 target (Goto m) = Some m
 target (GotoF m _) = Some m
 
--- What there is, as a list.
-abbrev pub optional : {X : Type 0} → Option X → List X
-optional None = []
-optional (Some x) = x ∷ []
-
 -- Where it can go from a label: to the next one, and to its target.
 abbrev pub successors : Instruction → ℕ → List ℕ
-successors i label = cond (falls_through i) ((label + 1) ∷ []) [] ++ optional (target i)
+successors i label = cond (falls_through i) ((label + 1) ∷ []) [] ++ option_to_list (target i)
 
 -- Whether a stack of kinds begins with some.
 abbrev pub same_kind : Kind → Kind → Bool
@@ -78,4 +73,4 @@ begins (k ∷ ks) (l ∷ kinds) = same_kind k l && begins ks kinds
 
 -- Whether an instruction runs on a stack of these kinds: it finds what it pops, and no ninth place is needed.
 abbrev pub runs_on : Instruction → List Kind → Bool
-runs_on i kinds = begins (pops i) kinds && nat_le (length (optional (pushes i)) + (length kinds - length (pops i))) 8
+runs_on i kinds = begins (pops i) kinds && nat_le (length (option_to_list (pushes i)) + (length kinds - length (pops i))) 8

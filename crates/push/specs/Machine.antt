@@ -1,18 +1,19 @@
 -- The machine: its steps as a relation with a rule for each instruction, and as a function. Assumes nothing.
-use Rattle.std.specs.Prelude.{◌≡◌, ℕ, ◌+◌, ◌<◌, Bool, cond, not, List, [], ◌∷◌, length, drop, ℤ, pos, Some, None, Option, nat_lt, slice_index_or, slice_set}
+use Rattle.std.specs.Prelude.{◌≡◌, ℕ, ◌+◌, ◌<◌, Bool, cond, List, [], ◌∷◌, length, drop, ℤ, pos, Some, None, Option, nat_lt, slice_index_or, slice_set, int_lt}
+use Rattle.std.specs.Prelude as std
 use Rattle.push.specs.declared.instruction.Instruction.{Instruction}
 use Rattle.push.specs.declared.instruction.Instruction.TheVariants.{Load, Store, Push, Add, Sub, Eq, Less, Not, Goto, GotoF}
 use Rattle.push.specs.declared.value.Value.{Value}
 use Rattle.push.specs.declared.value.Value.TheVariants.{Int, Flag}
 use Rattle.push.specs.Code.{fetch}
-use Rattle.push.specs.Numbers.{sum, difference, same, less}
+use Rattle.push.specs.Numbers.{sum, difference, same}
 
 -- A label, a stack with its top first, and the values of the variables. A run has 32 of these and at most 8 places.
 pub data Machine : Type 0 where
   at : ℕ → List Value → List ℤ → Machine
 
 infix 20 ◌⊢◌⟶◌
--- The rules: `lower` is less, `turn` is not, `branch` is gotoF. Where none applies there is no step.
+-- The rules, one for each instruction. Where none applies there is no step.
 pub data ◌⊢◌⟶◌ (code : List Instruction) : Machine → Machine → Type 0 where
   load : {l v : ℕ} {s : List Value} {vs : List ℤ} → fetch code l ≡ Some (Load v) → v < 32 → length s < 8 → code ⊢ at l s vs ⟶ at (l + 1) (Int (slice_index_or vs v (pos 0)) ∷ s) vs
   store : {l v : ℕ} {t : ℤ} {s : List Value} {vs : List ℤ} → fetch code l ≡ Some (Store v) → v < 32 → code ⊢ at l (Int t ∷ s) vs ⟶ at (l + 1) s (slice_set vs v t)
@@ -20,10 +21,10 @@ pub data ◌⊢◌⟶◌ (code : List Instruction) : Machine → Machine → Typ
   add : {l : ℕ} {t u : ℤ} {s : List Value} {vs : List ℤ} → fetch code l ≡ Some Add → code ⊢ at l (Int t ∷ Int u ∷ s) vs ⟶ at (l + 1) (Int (sum u t) ∷ s) vs
   sub : {l : ℕ} {t u : ℤ} {s : List Value} {vs : List ℤ} → fetch code l ≡ Some Sub → code ⊢ at l (Int t ∷ Int u ∷ s) vs ⟶ at (l + 1) (Int (difference u t) ∷ s) vs
   eq : {l : ℕ} {t u : ℤ} {s : List Value} {vs : List ℤ} → fetch code l ≡ Some Eq → code ⊢ at l (Int t ∷ Int u ∷ s) vs ⟶ at (l + 1) (Flag (same u t) ∷ s) vs
-  lower : {l : ℕ} {t u : ℤ} {s : List Value} {vs : List ℤ} → fetch code l ≡ Some Less → code ⊢ at l (Int t ∷ Int u ∷ s) vs ⟶ at (l + 1) (Flag (less u t) ∷ s) vs
-  turn : {l : ℕ} {b : Bool} {s : List Value} {vs : List ℤ} → fetch code l ≡ Some Not → code ⊢ at l (Flag b ∷ s) vs ⟶ at (l + 1) (Flag (not b) ∷ s) vs
+  less : {l : ℕ} {t u : ℤ} {s : List Value} {vs : List ℤ} → fetch code l ≡ Some Less → code ⊢ at l (Int t ∷ Int u ∷ s) vs ⟶ at (l + 1) (Flag (int_lt u t) ∷ s) vs
+  not : {l : ℕ} {b : Bool} {s : List Value} {vs : List ℤ} → fetch code l ≡ Some Not → code ⊢ at l (Flag b ∷ s) vs ⟶ at (l + 1) (Flag (std.not b) ∷ s) vs
   goto : {l m : ℕ} {s : List Value} {vs : List ℤ} → fetch code l ≡ Some (Goto m) → code ⊢ at l s vs ⟶ at m s vs
-  branch : {l m j : ℕ} {b : Bool} {s : List Value} {vs : List ℤ} → fetch code l ≡ Some (GotoF m j) → code ⊢ at l (Flag b ∷ s) vs ⟶ at (cond b (l + 1) m) s vs
+  gotof : {l m j : ℕ} {b : Bool} {s : List Value} {vs : List ℤ} → fetch code l ≡ Some (GotoF m j) → code ⊢ at l (Flag b ∷ s) vs ⟶ at (cond b (l + 1) m) s vs
 
 -- What an instruction finds on top of a stack: an integer.
 abbrev pub integer_on : List Value → Option ℤ
@@ -62,7 +63,7 @@ combined f (Some p) l s vs = Some (at (l + 1) (f p.0 p.1 ∷ drop 2 s) vs)
 
 abbrev pub turned : Option Bool → ℕ → List Value → List ℤ → Option Machine
 turned None l s vs = None
-turned (Some b) l s vs = Some (at (l + 1) (Flag (not b) ∷ drop 1 s) vs)
+turned (Some b) l s vs = Some (at (l + 1) (Flag (std.not b) ∷ drop 1 s) vs)
 
 abbrev pub branched : ℕ → Option Bool → ℕ → List Value → List ℤ → Option Machine
 branched m None l s vs = None
@@ -76,7 +77,7 @@ perform (Some (Push x)) l s vs = pushed (Int x) l s vs
 perform (Some Add) l s vs = combined (λ u t. Int (sum u t)) (integers_on s) l s vs
 perform (Some Sub) l s vs = combined (λ u t. Int (difference u t)) (integers_on s) l s vs
 perform (Some Eq) l s vs = combined (λ u t. Flag (same u t)) (integers_on s) l s vs
-perform (Some Less) l s vs = combined (λ u t. Flag (less u t)) (integers_on s) l s vs
+perform (Some Less) l s vs = combined (λ u t. Flag (int_lt u t)) (integers_on s) l s vs
 perform (Some Not) l s vs = turned (flag_on s) l s vs
 perform (Some (Goto m)) l s vs = Some (at m s vs)
 perform (Some (GotoF m j)) l s vs = branched m (flag_on s) l s vs

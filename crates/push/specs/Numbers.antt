@@ -16,6 +16,3 @@ same (pos m) (pos n) = m == n
 same (pos m) (negsuc n) = false
 same (negsuc m) (pos n) = false
 same (negsuc m) (negsuc n) = m == n
-
-abbrev pub less : ℤ → ℤ → Bool
-less u t = int_lt u t
