@@ -11,21 +11,28 @@ use Rattle.cases.specs.Jobs.{load_store, job_b, goto_itself, levels_with}
 abbrev pub ladder_and_flip : Order
 ladder_and_flip = pair (ladder 4) (flip (ladder 4))
 
--- A job on a controller over some values, advanced once with a budget; and the end after that.
-abbrev pub holding : List ℕ → List ℤ → ReadyState
-holding job values = record { levels = levels_with 0; values = values; program = decoded_code job (opening job) }
+-- A job on a controller over a ladder of 16 and some values, advanced once with a budget; and the end after that.
+abbrev pub holding : List ℕ → List ℤ → ReadyState Order
+holding job values =
+    record {
+      lattice = ladder 16;
+      levels = levels_with 0;
+      values = values;
+      program = decoded_code job (opening job);
+    }
 
-abbrev pub ran : List ℕ → List ℤ → ℕ → (ℕ × ℕ) × RunningState
+abbrev pub ran : List ℕ → List ℤ → ℕ → (ℕ × ℕ) × RunningState Order
 ran job values budget = advance_outcome (started_state (holding job values)) budget
 
-abbrev pub ended : List ℕ → List ℤ → ℕ → ℕ × ReadyState
+abbrev pub ended : List ℕ → List ℤ → ℕ → ℕ × ReadyState Order
 ended job values budget = end_outcome (ran job values budget).1
 
 -- What advances answer that are made one after the other, with the budgets of a list: on a running controller, and on
 -- one that has just started a job on some values.
-abbrev pub advances_from : RunningState → List ℕ → List (ℕ × ℕ)
+abbrev pub advances_from : RunningState Order → List ℕ → List (ℕ × ℕ)
 advances_from s [] = []
-advances_from s (budget ∷ budgets) = (advance_outcome s budget).0 ∷ advances_from (advance_outcome s budget).1 budgets
+advances_from s (budget ∷ budgets) =
+    (advance_outcome s budget).0 ∷ advances_from (advance_outcome s budget).1 budgets
 
 abbrev pub advances : List ℕ → List ℤ → List ℕ → List (ℕ × ℕ)
 advances job values budgets = advances_from (started_state (holding job values)) budgets

@@ -2,7 +2,7 @@
 -- order.
 use Rattle.std.proofs.Common.{◌≡◌, ℕ, ◌+◌, ◌<◌, Bool, true, false, cond, eqb, ltb, ◌⊎◌, List, [], ◌∷◌, length, get_or, set, ℤ, pos, sym, refl, ap, ◌∙◌, subst, inl, inr, ⊎_elim, arith}
 use lib.ListN.{length-replicate}
-use Rattle.std.proofs.lemmas.List.{length-set, get_or-set_same, get_or-set_other, get_or-replicate}
+use Rattle.std.proofs.lemmas.List.{length-set}
 use Rattle.std.proofs.lemmas.List.Sums.{sum_by-cons}
 use Rattle.std.proofs.lemmas.Bool.{cases_lt, true≢false, eqb-true, eqb-false, ltb-true, eq-eqb}
 use Rattle.lattice.specs.Order.{Order, Laws}
@@ -20,15 +20,11 @@ use Rattle.checker.proofs.Judgement.{verdict_judged}
 use Rattle.checker.proofs.Typing.{rule_within}
 use Rattle.checker.specs.Flow.{NeverFaults, KeepsClosed, LevelsOfVariables}
 use Rattle.checker.proofs.Safety.{accepted_jobs_never_fault, accepted_jobs_keep_closed}
-use Rattle.controller.specs.State.{SetupState, ReadyState, new_state}
+use Rattle.controller.specs.State.{SetupState, ReadyState, RunningState, Graded, ready_with}
 use Rattle.controller.specs.Lists as lists
-use Rattle.controller.specs.Lists.{Call, grade, seal, mount, read, show, start, advance, end, unseal, Answer, graded, mounted, was_set, ended, State, in_setup, is_ready, is_running, Outcome, allowed, disallowed, setup_call, ready_call, running_call, outcome, after_call, transcript_from, transcript}
+use Rattle.controller.specs.Lists.{Call, grade, seal, mount, read, show, start, advance, end, unseal, Answer, graded, mounted, was_set, ended, State, in_setup, is_ready, is_running, Outcome, allowed, disallowed, setup_call, ready_call, running_call, outcome, after_call, transcript_from, new_controller, transcript}
 use Rattle.controller.specs.Counts.{fault_in, stack_faults}
-
--- The 32 levels are levels, or there are none.
-pub record Graded (o : Order) (levels : List ℕ) : Type 0 where
-  pub sized : length levels ≡ 32
-  are_levels : (o.span ≡ 0) ⊎ LevelsOfVariables o levels
+use Rattle.controller.proofs.LevelFacts.{highest_graded, regraded}
 
 -- A program that can be run over some levels.
 pub record Safe (o : Order) (levels : List ℕ) (program : List Instruction) : Type 0 where
@@ -41,10 +37,19 @@ pub record UnderWay (code : List Instruction) (values : List ℤ) (r : RunState)
   pub reached : Steps code count (at 0 [] values) r.machine
   pub honest : TrueStatus code r
 
+-- A state over the lattice o that a list can come to.
 pub data Good (o : Order) : State → Type 0 where
-  good_setup : {levels : List ℕ} → Graded o levels → Good o (in_setup (record { levels = levels }))
-  good_ready : {levels : List ℕ} {values : List ℤ} {program : List Instruction} → Graded o levels → Safe o levels program → length values ≡ 32 → Good o (is_ready (record { levels = levels; values = values; program = program }))
-  good_running : {levels : List ℕ} {remembered : List ℤ} {program : List Instruction} {r : RunState} → Graded o levels → Safe o levels program → length remembered ≡ 32 → UnderWay program remembered r → Good o (is_running (record { levels = levels; remembered = remembered; program = program; run = r }))
+  good_setup : {levels : List ℕ} → Graded o levels → Good o (in_setup (record { lattice = o; levels = levels }))
+  good_ready :
+      {levels : List ℕ} {values : List ℤ} {program : List Instruction} → Graded o levels → Safe o levels program → length values ≡ 32 →
+      Good o (is_ready (record { lattice = o; levels = levels; values = values; program = program }))
+  good_running :
+      {levels : List ℕ} {remembered : List ℤ} {program : List Instruction} {r : RunState} →
+      Graded o levels → Safe o levels program → length remembered ≡ 32 → UnderWay program remembered r →
+      Good o (is_running (record { lattice = o; levels = levels; remembered = remembered; program = program; run = r }))
+
+pub run_of : {o : Order} {s : RunningState Order} → Good o (is_running s) → Safe o s.levels s.program × UnderWay s.program s.remembered s.run
+run_of (good_running g safe long way) = (safe, way)
 
 -- Steps keep the number of values, and follow one another.
 rule_keeps_length : {code : List Instruction} {m n : Machine} → code ⊢ m ⟶ n → length (values_of n) ≡ length (values_of m)
@@ -97,11 +102,16 @@ none_open o laws levels program empty w vs ws alike j k s t vs' ws' left right =
       agree = λ v hv low. let some = (laws.only_levels (get_or levels v 0) w low).0 in absurd (omega arith);
     }
 
-accepted_is_safe : (o : Order) → Laws o → (levels bytes : List ℕ) → Graded o levels → (verdict o levels bytes).0 ≡ 0 → Safe o levels (decoded_code bytes (opening bytes))
+accepted_is_safe :
+    (o : Order) → Laws o → (levels bytes : List ℕ) → Graded o levels → (verdict o levels bytes).0 ≡ 0 →
+    Safe o levels (decoded_code bytes (opening bytes))
 accepted_is_safe o laws levels bytes g z =
+    let is = accepted o levels bytes z in
     record {
-      never_faults = accepted_jobs_never_fault o levels bytes laws (accepted o levels bytes z);
-      keeps_closed = ⊎_elim (none_open o laws levels (decoded_code bytes (opening bytes))) (accepted_jobs_keep_closed o levels bytes laws (accepted o levels bytes z)) g.are_levels;
+      never_faults = accepted_jobs_never_fault o levels bytes laws is;
+      keeps_closed =
+          ⊎_elim (λ some. accepted_jobs_keep_closed o levels bytes laws is (g.are_levels some))
+          (λ none. none_open o laws levels (decoded_code bytes (opening bytes)) (omega arith)) (cases_lt 0 o.span);
     }
 
 -- The empty program is safe.
@@ -120,18 +130,8 @@ nothing_is_safe o levels = record { never_faults = stays; keeps_closed = closed 
     closed w vs ws alike j k s t vs' ws' runs.none (runs.more r rest) = absurd (nothing_runs r)
     closed w vs ws alike j k s t vs' ws' (runs.more r rest) right = absurd (nothing_runs r)
 
-regraded : (o : Order) (levels : List ℕ) (v l : ℕ) → Graded o levels → v < 32 → l < o.span → Graded o (set levels v l)
-regraded o levels v l g small level = record { sized = length-set levels v l ∙ g.sized; are_levels = inr (λ u hu. at_variable u hu (eqb u v) refl) }
-  where
-    before : (u : ℕ) → u < 32 → get_or levels u 0 < o.span
-    before u hu = ⊎_elim (λ empty. absurd (omega arith)) (λ all. all u hu) g.are_levels
-
-    at_variable : (u : ℕ) → u < 32 → (t : Bool) → eqb u v ≡ t → get_or (set levels v l) u 0 < o.span
-    at_variable u hu true e = subst (λ n. get_or (set levels v l) n 0 < o.span) (sym (eqb-true u v e)) (subst (λ x. x < o.span) (sym (get_or-set_same levels v l 0 (omega (arith, g.sized)))) level)
-    at_variable u hu false e = subst (λ x. x < o.span) (sym (get_or-set_other levels v u l 0 (eqb-false u v e))) (before u hu)
-
-pub new_is_good : (o : Order) → Laws o → Good o (in_setup (new_state o))
-new_is_good o laws = good_setup (record { sized = length-replicate 32 o.highest; are_levels = ⊎_elim (λ some. inr (λ v hv. subst (λ x. x < o.span) (sym (get_or-replicate 32 v o.highest 0 hv)) (laws.only_levels 0 o.highest (laws.highest_greatest 0 some)).1)) (λ empty. inl (omega arith)) (cases_lt 0 o.span) })
+pub new_is_good : (o : Order) → Laws o → Good o (new_controller o)
+new_is_good o laws = good_setup (highest_graded o laws)
 
 -- What a call leaves of a good state is good, and no advance answers 2.
 pub data GoodOutcome (o : Order) : Outcome → Type 0 where
@@ -139,96 +139,97 @@ pub data GoodOutcome (o : Order) : Outcome → Type 0 where
   good_allowed : {answer : Answer} {s : State} → fault_in answer ≡ 0 → Good o s → GoodOutcome o (allowed answer s)
 
 module _ (o : Order) (laws : Laws o) where
-  setup_good : (levels : List ℕ) → Graded o levels → (c : Call) → GoodOutcome o (setup_call o (record { levels = levels }) c)
+  setup_good : (levels : List ℕ) → Graded o levels → (c : Call) → GoodOutcome o (setup_call (record { lattice = o; levels = levels }) c)
   setup_good levels g (grade v l) = by (ltb v 32) (ltb l o.span) refl refl
     where
-      out : Bool → Bool → ℕ × SetupState
-      out known level = cond known (cond level (0, record { levels = set levels v l }) (2, record { levels = levels })) (1, record { levels = levels })
+      s : SetupState Order
+      s = record { lattice = o; levels = levels }
 
-      by : (known level : Bool) → ltb v 32 ≡ known → ltb l o.span ≡ level → GoodOutcome o (allowed (graded (out known level).0) (in_setup (out known level).1))
+      out : Bool → Bool → ℕ × SetupState Order
+      out known level = cond known (cond level (0, record s { levels = set levels v l }) (2, s)) (1, s)
+
+      by : (known level : Bool) → ltb v 32 ≡ known → ltb l o.span ≡ level →
+          GoodOutcome o (allowed (graded (out known level).0) (in_setup (out known level).1))
       by true true k h = good_allowed refl (good_setup (regraded o levels v l g (ltb-true v 32 k) (ltb-true l o.span h)))
       by true false k h = good_allowed refl (good_setup g)
       by false level k h = good_allowed refl (good_setup g)
   setup_good levels g seal = good_allowed refl (good_ready g (nothing_is_safe o levels) (length-replicate 32 (pos 0)))
-  setup_good levels g (mount _) = good_disallowed
-  setup_good levels g (lists.set _ _) = good_disallowed
-  setup_good levels g (read _) = good_disallowed
-  setup_good levels g (show _ _) = good_disallowed
-  setup_good levels g start = good_disallowed
-  setup_good levels g (advance _) = good_disallowed
-  setup_good levels g end = good_disallowed
-  setup_good levels g unseal = good_disallowed
+  setup_good levels g _ = good_disallowed
 
-  ready_good : (levels : List ℕ) (values : List ℤ) (program : List Instruction) → Graded o levels → Safe o levels program → length values ≡ 32 → (c : Call) → GoodOutcome o (ready_call o (record { levels = levels; values = values; program = program }) c)
-  ready_good levels values program g safe long (grade _ _) = good_disallowed
-  ready_good levels values program g safe long seal = good_disallowed
-  ready_good levels values program g safe long (mount bytes) = by (eqb (verdict o levels bytes).0 0) refl
-    where
-      s : ReadyState
-      s = record { levels = levels; values = values; program = program }
+  module _ (levels : List ℕ) (values : List ℤ) (program : List Instruction) (g : Graded o levels) (safe : Safe o levels program) (long : length values ≡ 32) where
+    abbrev ready : ReadyState Order
+    ready = record { lattice = o; levels = levels; values = values; program = program }
 
-      out : Bool → (ℕ × ℕ) × ReadyState
-      out ok = cond ok (verdict o levels bytes, record { levels = levels; values = values; program = decoded_code bytes (opening bytes) }) (verdict o levels bytes, s)
+    stays : {answer : Answer} → fault_in answer ≡ 0 → GoodOutcome o (allowed answer (is_ready ready))
+    stays none = good_allowed none (good_ready g safe long)
 
-      by : (ok : Bool) → eqb (verdict o levels bytes).0 0 ≡ ok → GoodOutcome o (allowed (mounted (out ok).0) (is_ready (out ok).1))
-      by true e = good_allowed refl (good_ready g (accepted_is_safe o laws levels bytes g (eqb-true (verdict o levels bytes).0 0 e)) long)
-      by false e = good_allowed refl (good_ready g safe long)
-  ready_good levels values program g safe long (lists.set v x) = by (ltb v 32)
-    where
-      out : Bool → ℕ × ReadyState
-      out known = cond known (0, record { levels = levels; values = set values v x; program = program }) (1, record { levels = levels; values = values; program = program })
+    ready_good : (c : Call) → GoodOutcome o (ready_call ready c)
+    ready_good (mount bytes) = by (eqb is.0 0) refl
+      where
+        is : ℕ × ℕ
+        is = verdict o levels bytes
 
-      by : (known : Bool) → GoodOutcome o (allowed (was_set (out known).0) (is_ready (out known).1))
-      by true = good_allowed refl (good_ready g safe (length-set values v x ∙ long))
-      by false = good_allowed refl (good_ready g safe long)
-  ready_good levels values program g safe long (read _) = good_allowed refl (good_ready g safe long)
-  ready_good levels values program g safe long (show _ _) = good_allowed refl (good_ready g safe long)
-  ready_good levels values program g safe long start = good_allowed refl (good_running g safe long (starts_so program values))
-  ready_good levels values program g safe long (advance _) = good_disallowed
-  ready_good levels values program g safe long end = good_disallowed
-  ready_good levels values program g safe long unseal = good_allowed refl (good_setup g)
+        out : Bool → (ℕ × ℕ) × ReadyState Order
+        out ok = cond ok (is, record ready { program = decoded_code bytes (opening bytes) }) (is, ready)
 
-  running_good : (levels : List ℕ) (remembered : List ℤ) (program : List Instruction) (r : RunState) → Graded o levels → Safe o levels program → length remembered ≡ 32 → UnderWay program remembered r → (c : Call) → GoodOutcome o (running_call (record { levels = levels; remembered = remembered; program = program; run = r }) c)
-  running_good levels remembered program r g safe long way (grade _ _) = good_disallowed
-  running_good levels remembered program r g safe long way seal = good_disallowed
-  running_good levels remembered program r g safe long way (mount _) = good_disallowed
-  running_good levels remembered program r g safe long way (lists.set _ _) = good_disallowed
-  running_good levels remembered program r g safe long way (read _) = good_disallowed
-  running_good levels remembered program r g safe long way (show _ _) = good_disallowed
-  running_good levels remembered program r g safe long way start = good_disallowed
-  running_good levels remembered program r g safe long way (advance budget) =
-      let on = goes_on program remembered r budget way in
-      good_allowed (harmless (run program budget r).1.status (no_fault program remembered (run program budget r).1 safe.never_faults on)) (good_running g safe long on)
-    where
-      harmless : (status : Status) → (status ≡ Faulted → ⊥) → fault_in (lists.advanced (status_number status, (run program budget r).0)) ≡ 0
-      harmless Going h = refl
-      harmless Halted h = refl
-      harmless Faulted h = absurd (h refl)
-  running_good levels remembered program r g safe long way end = by (is_halted r.status)
-    where
-      ready_of : List ℤ → ReadyState
-      ready_of values = record { levels = levels; values = values; program = program }
+        by : (ok : Bool) → eqb is.0 0 ≡ ok → GoodOutcome o (allowed (mounted (out ok).0) (is_ready (out ok).1))
+        by true e = good_allowed refl (good_ready g (accepted_is_safe o laws levels bytes g (eqb-true is.0 0 e)) long)
+        by false e = stays refl
+    ready_good (lists.set v x) = by (ltb v 32)
+      where
+        out : Bool → ℕ × ReadyState Order
+        out known = cond known (0, record ready { values = set values v x }) (1, ready)
 
-      out : Bool → ℕ × ReadyState
-      out halted = cond halted (1, ready_of (values_of r.machine)) (0, ready_of remembered)
+        by : (known : Bool) → GoodOutcome o (allowed (was_set (out known).0) (is_ready (out known).1))
+        by true = good_allowed refl (good_ready g safe (length-set values v x ∙ long))
+        by false = stays refl
+    ready_good (read _) = stays refl
+    ready_good (show _ _) = stays refl
+    ready_good start = good_allowed refl (good_running g safe long (starts_so program values))
+    ready_good unseal = good_allowed refl (good_setup g)
+    ready_good _ = good_disallowed
 
-      by : (halted : Bool) → GoodOutcome o (allowed (ended (out halted).0) (is_ready (out halted).1))
-      by true = good_allowed refl (good_ready g safe (steps_keep_length way.reached ∙ long))
-      by false = good_allowed refl (good_ready g safe long)
-  running_good levels remembered program r g safe long way unseal = good_disallowed
+    module _ (r : RunState) (way : UnderWay program values r) where
+      abbrev running : RunningState Order
+      running = record { lattice = o; levels = levels; remembered = values; program = program; run = r }
 
-  pub stays_good : {s : State} → Good o s → (c : Call) → GoodOutcome o (outcome o s c)
+      running_good : (c : Call) → GoodOutcome o (running_call running c)
+      running_good (advance budget) =
+          let on = goes_on program values r budget way in
+          let after : RunState = (run program budget r).1 in
+          good_allowed (harmless after.status (no_fault program values after safe.never_faults on)) (good_running g safe long on)
+        where
+          harmless : (status : Status) → (status ≡ Faulted → ⊥) → fault_in (lists.advanced (status_number status, (run program budget r).0)) ≡ 0
+          harmless Going h = refl
+          harmless Halted h = refl
+          harmless Faulted h = absurd (h refl)
+      running_good end = by (is_halted r.status)
+        where
+          out : Bool → ℕ × ReadyState Order
+          out halted = cond halted (1, ready_with running (values_of r.machine)) (0, ready)
+
+          by : (halted : Bool) → GoodOutcome o (allowed (ended (out halted).0) (is_ready (out halted).1))
+          by true = good_allowed refl (good_ready g safe (steps_keep_length way.reached ∙ long))
+          by false = stays refl
+      running_good _ = good_disallowed
+
+  pub stays_good : {s : State} → Good o s → (c : Call) → GoodOutcome o (outcome s c)
   stays_good (good_setup {levels = levels} g) c = setup_good levels g c
   stays_good (good_ready {levels = levels} {values = values} {program = program} g safe long) c = ready_good levels values program g safe long c
-  stays_good (good_running {levels = levels} {remembered = remembered} {program = program} {r = r} g safe long way) c = running_good levels remembered program r g safe long way c
+  stays_good (good_running {levels = levels} {remembered = remembered} {program = program} {r = r} g safe long way) c =
+      running_good levels remembered program g safe long r way c
 
-  no_faults_from : (place : ℕ) (s : State) (calls : List Call) → Good o s → stack_faults (transcript_from o place s calls) ≡ 0
+  no_faults_from : (place : ℕ) (s : State) (calls : List Call) → Good o s → stack_faults (transcript_from place s calls) ≡ 0
   no_faults_from place s [] g = refl
-  no_faults_from place s (c ∷ calls) g = by (outcome o s c) (stays_good g c) (λ next good. no_faults_from (place + 1) next calls good)
+  no_faults_from place s (c ∷ calls) g =
+      by (outcome s c) (stays_good g c) (λ next good. no_faults_from (place + 1) next calls good)
     where
-      by : (out : Outcome) → GoodOutcome o out → ((next : State) → Good o next → stack_faults (transcript_from o (place + 1) next calls) ≡ 0) → stack_faults (after_call place out (λ next. transcript_from o (place + 1) next calls)) ≡ 0
+      left : State → List Answer
+      left next = transcript_from (place + 1) next calls
+
+      by : (out : Outcome) → GoodOutcome o out → ((next : State) → Good o next → stack_faults (left next) ≡ 0) → stack_faults (after_call place out left) ≡ 0
       by disallowed good_disallowed rest = refl
-      by (allowed answer next) (good_allowed none good) rest = omega (arith, sum_by-cons fault_in answer (transcript_from o (place + 1) next calls), none, rest next good)
+      by (allowed answer next) (good_allowed none good) rest = omega (arith, sum_by-cons fault_in answer (left next), none, rest next good)
 
   pub no_stack_faults : (calls : List Call) → stack_faults (transcript o calls) ≡ 0
-  no_stack_faults calls = no_faults_from 0 (in_setup (new_state o)) calls (new_is_good o laws)
+  no_stack_faults calls = no_faults_from 0 (new_controller o) calls (new_is_good o laws)

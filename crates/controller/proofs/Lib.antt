@@ -1,3 +1,4 @@
+pub mod LevelFacts
 pub mod SheetFacts
 pub mod ListFacts
 pub mod Kept

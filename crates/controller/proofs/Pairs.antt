@@ -13,150 +13,182 @@ use Rattle.checker.specs.Verdict.{verdict, decoded_code}
 use Rattle.checker.specs.Flow.{SameWhenOpen, KeepsClosed}
 use Rattle.checker.proofs.OpenFacts.{same_here, written}
 use Rattle.controller.specs.State.{SetupState, ReadyState, RunningState}
-use Rattle.controller.specs.Sheet.{line, open_below, lines_below, show_outcome}
+use Rattle.controller.specs.Sheet.{line, lines_below, open_count, shown_over}
 use Rattle.controller.specs.Lists as lists
-use Rattle.controller.specs.Lists.{Call, grade, seal, mount, read, show, start, advance, end, unseal, Answer, not_allowed, State, in_setup, is_ready, is_running, Outcome, allowed, disallowed, outcome, sheet_shown, after_call, transcript_from, transcript}
+use Rattle.controller.specs.Lists.{Call, grade, seal, mount, read, show, start, advance, end, unseal, Answer, not_allowed, State, in_setup, is_ready, is_running, Outcome, allowed, disallowed, setup_call, ready_call, running_call, outcome, sheet_shown, after_call, transcript_from, transcript}
 use Rattle.controller.specs.Counts as counts
 use Rattle.controller.specs.Counts.{shows_to, sheet_in, sheets, show_answers, differing, differing_bytes, end_in, ends, state_after, Alike, ClosedValuesStayClosed}
-use Rattle.controller.proofs.Kept.{Good, good_setup, good_running, UnderWay, Safe, GoodOutcome, good_allowed, stays_good, new_is_good}
+use Rattle.controller.proofs.ListFacts.{rest_of}
+use Rattle.controller.proofs.Kept.{Good, run_of, UnderWay, Safe, GoodOutcome, good_allowed, stays_good, new_is_good}
 
 -- What an observer sees of two states that agree on what is open to it is the same sheet.
-module _ (o : Order) (w : ℕ) (levels : List ℕ) (vs ws : List ℤ) (program : List Instruction) (alike : SameWhenOpen o levels w vs ws) where
-  abbrev left : ReadyState
-  left = record { levels = levels; values = vs; program = program }
-
-  abbrev right : ReadyState
-  right = record { levels = levels; values = ws; program = program }
-
-  same_open : (n : ℕ) → open_below o left w n ≡ open_below o right w n
-  unfolding open_below
-  same_open zero = refl
-  same_open (suc n) = ap (λ k. k + cond (o.at_most (get_or levels n 0) w) 1 0) (same_open n)
-
-  same_lines : (n : ℕ) → n ≤ 32 → lines_below o left w n ≡ lines_below o right w n
+module _ (o : Order) (w : ℕ) (levels : List ℕ) (vs ws : List ℤ) (alike : SameWhenOpen o levels w vs ws) where
+  same_lines : (n : ℕ) → n ≤ 32 → lines_below o levels vs w n ≡ lines_below o levels ws w n
   unfolding lines_below
   same_lines zero h = refl
-  same_lines (suc n) h = ap₂ (λ (front : List ℕ) (back : List ℕ). front ++ back) (same_lines n (omega arith)) (by (o.at_most (get_or levels n 0) w) refl)
+  same_lines (suc n) h =
+      ap₂ (λ (front : List ℕ) (back : List ℕ). front ++ back) (same_lines n (omega arith)) (by (o.at_most (get_or levels n 0) w) refl)
     where
       by : (t : Bool) → o.at_most (get_or levels n 0) w ≡ t → cond t (line n (get_or vs n (pos 0))) [] ≡ cond t (line n (get_or ws n (pos 0))) []
       by true e = ap (line n) (alike.agree n (omega arith) e)
       by false e = refl
 
-  same_sheet : (buffer : List ℕ) → sheet_shown (show_outcome o left w buffer) ≡ sheet_shown (show_outcome o right w buffer)
-  same_sheet buffer = ap₂ (λ (count : ℕ) (lines : List ℕ). sheet_shown (cond (ltb w o.span) (cond (ltb (length buffer) (5 * count)) ((3, 0), buffer) ((0, count), lines ++ drop (5 * count) buffer)) ((2, 0), buffer))) (same_open 32) (same_lines 32 (omega arith))
+  same_sheet : (buffer : List ℕ) → shown_over o levels vs w buffer ≡ shown_over o levels ws w buffer
+  same_sheet buffer =
+      let count = open_count o levels w in
+      let out : List ℕ → (ℕ × ℕ) × List ℕ =
+      λ lines. cond (ltb w o.span) (cond (ltb (length buffer) (5 * count)) ((3, 0), buffer) ((0, count), lines ++ drop (5 * count) buffer)) ((2, 0), buffer)
+      in
+      ap out (same_lines 32 (omega arith))
 
 module _ (o : Order) (laws : Laws o) (w : ℕ) where
   -- Two states alike for the observer.
   data Related : State → State → Type 0 where
-    same_setup : {s : SetupState} → Related (in_setup s) (in_setup s)
-    same_ready : {levels : List ℕ} {vs ws : List ℤ} {program : List Instruction} → SameWhenOpen o levels w vs ws → Related (is_ready (record { levels = levels; values = vs; program = program })) (is_ready (record { levels = levels; values = ws; program = program }))
-    same_running : {levels : List ℕ} {vs ws : List ℤ} {program : List Instruction} {r q : RunState} → SameWhenOpen o levels w vs ws → Related (is_running (record { levels = levels; remembered = vs; program = program; run = r })) (is_running (record { levels = levels; remembered = ws; program = program; run = q }))
+    same_setup : {levels : List ℕ} → Related (in_setup (record { lattice = o; levels = levels })) (in_setup (record { lattice = o; levels = levels }))
+    same_ready :
+        {levels : List ℕ} {vs ws : List ℤ} {program : List Instruction} → SameWhenOpen o levels w vs ws →
+        Related (is_ready (record { lattice = o; levels = levels; values = vs; program = program }))
+        (is_ready (record { lattice = o; levels = levels; values = ws; program = program }))
+    same_running :
+        {levels : List ℕ} {vs ws : List ℤ} {program : List Instruction} {r q : RunState} → SameWhenOpen o levels w vs ws →
+        Related (is_running (record { lattice = o; levels = levels; remembered = vs; program = program; run = r }))
+        (is_running (record { lattice = o; levels = levels; remembered = ws; program = program; run = q }))
 
   -- What two alike calls come to.
   data Paired (c : Call) : Outcome → Outcome → Type 0 where
     both_disallowed : Paired c disallowed disallowed
-    both_allowed : {a b : Answer} {s t : State} → (shows_to w c ≡ true → a ≡ b) → length (end_in a) ≡ length (end_in b) → (end_in a ≡ end_in b → Related s t) → Paired c (allowed a s) (allowed b t)
+    both_allowed :
+        {a b : Answer} {s t : State} → (shows_to w c ≡ true → a ≡ b) → length (end_in a) ≡ length (end_in b) → (end_in a ≡ end_in b → Related s t) →
+        Paired c (allowed a s) (allowed b t)
 
   no_show : {X : Type 0} → false ≡ true → X
   no_show e = absurd (false≢true e)
 
-  -- two halted runs of a safe program
-  both_kept : (levels : List ℕ) (vs ws : List ℤ) (program : List Instruction) (r q : RunState) → KeepsClosed o levels program → UnderWay program vs r → UnderWay program ws q → is_halted r.status ≡ true → is_halted q.status ≡ true → SameWhenOpen o levels w vs ws → SameWhenOpen o levels w (values_of r.machine) (values_of q.machine)
-  both_kept levels vs ws program r q keeps way way' halted halted' alike =
-      by r.machine q.machine way.reached way'.reached (eqb-true _ _ (sym way.honest.halted_at_the_exit ∙ halted)) (eqb-true _ _ (sym way'.honest.halted_at_the_exit ∙ halted'))
+  setup_paired : (levels : List ℕ) → (c : Call) →
+      Paired c (setup_call (record { lattice = o; levels = levels }) c) (setup_call (record { lattice = o; levels = levels }) c)
+  setup_paired levels (grade v l) = by (ltb v 32) (ltb l o.span)
     where
-      by : (m n : Machine) → Steps program way.count (at 0 [] vs) m → Steps program way'.count (at 0 [] ws) n → label_of m ≡ length program → label_of n ≡ length program → SameWhenOpen o levels w (values_of m) (values_of n)
-      by (at l s vs') (at l' t ws') left right e e' = keeps w vs ws alike way.count way'.count s t vs' ws' (subst (λ x. Steps program way.count (at 0 [] vs) (at x s vs')) e left) (subst (λ x. Steps program way'.count (at 0 [] ws) (at x t ws')) e' right)
+      s : SetupState Order
+      s = record { lattice = o; levels = levels }
 
-  setup_paired : (levels : List ℕ) → length levels ≡ 32 → (c : Call) → Paired c (outcome o (in_setup (record { levels = levels })) c) (outcome o (in_setup (record { levels = levels })) c)
-  setup_paired levels long (grade v l) = both_allowed no_show refl (λ _. same_setup)
-  setup_paired levels long seal = both_allowed no_show refl (λ _. same_ready (same_here (replicate 32 (pos 0)) (length-replicate 32 (pos 0))))
-  setup_paired levels long (mount _) = both_disallowed
-  setup_paired levels long (lists.set _ _) = both_disallowed
-  setup_paired levels long (read _) = both_disallowed
-  setup_paired levels long (show _ _) = both_disallowed
-  setup_paired levels long start = both_disallowed
-  setup_paired levels long (advance _) = both_disallowed
-  setup_paired levels long end = both_disallowed
-  setup_paired levels long unseal = both_disallowed
+      out : Bool → Bool → ℕ × SetupState Order
+      out known level = cond known (cond level (0, record s { levels = set levels v l }) (2, s)) (1, s)
+
+      Same : Bool → Bool → Type 0
+      Same known level =
+          let is : Outcome = allowed (lists.graded (out known level).0) (in_setup (out known level).1) in
+          Paired (grade v l) is is
+
+      by : (known level : Bool) → Same known level
+      by true true = both_allowed no_show refl (λ _. same_setup)
+      by true false = both_allowed no_show refl (λ _. same_setup)
+      by false level = both_allowed no_show refl (λ _. same_setup)
+  setup_paired levels seal = both_allowed no_show refl (λ _. same_ready (same_here (replicate 32 (pos 0)) (length-replicate 32 (pos 0))))
+  setup_paired levels _ = both_disallowed
 
   module _ (levels : List ℕ) (vs ws : List ℤ) (program : List Instruction) (alike : SameWhenOpen o levels w vs ws) where
-    abbrev one_side : List ℤ → ReadyState
-    one_side values = record { levels = levels; values = values; program = program }
+    abbrev ready_on : List ℤ → ReadyState Order
+    ready_on values = record { lattice = o; levels = levels; values = values; program = program }
 
-    set_paired : (v : ℕ) (x y : ℤ) → (v < 32 → o.at_most (get_or levels v 0) w ≡ true → x ≡ y) → Paired (lists.set v x) (outcome o (is_ready (one_side vs)) (lists.set v x)) (outcome o (is_ready (one_side ws)) (lists.set v y))
+    set_paired : (v : ℕ) (x y : ℤ) → (v < 32 → o.at_most (get_or levels v 0) w ≡ true → x ≡ y) →
+        Paired (lists.set v x) (ready_call (ready_on vs) (lists.set v x)) (ready_call (ready_on ws) (lists.set v y))
     set_paired v x y h = by (ltb v 32) refl
       where
-        out : List ℤ → ℤ → Bool → ℕ × ReadyState
-        out values z known = cond known (0, record { levels = levels; values = set values v z; program = program }) (1, one_side values)
+        out : List ℤ → ℤ → Bool → ℕ × ReadyState Order
+        out values z known = cond known (0, record (ready_on values) { values = set values v z }) (1, ready_on values)
 
-        by : (known : Bool) → ltb v 32 ≡ known → Paired (lists.set v x) (allowed (lists.was_set (out vs x known).0) (is_ready (out vs x known).1)) (allowed (lists.was_set (out ws y known).0) (is_ready (out ws y known).1))
+        by : (known : Bool) → ltb v 32 ≡ known →
+            Paired (lists.set v x) (allowed (lists.was_set (out vs x known).0) (is_ready (out vs x known).1))
+            (allowed (lists.was_set (out ws y known).0) (is_ready (out ws y known).1))
         by true e = both_allowed no_show refl (λ _. same_ready (written v x y vs ws (ltb-true v 32 e) (h (ltb-true v 32 e)) alike))
         by false e = both_allowed no_show refl (λ _. same_ready alike)
 
-    mount_paired : (bytes : List ℕ) → Paired (mount bytes) (outcome o (is_ready (one_side vs)) (mount bytes)) (outcome o (is_ready (one_side ws)) (mount bytes))
-    mount_paired bytes = by (eqb (verdict o levels bytes).0 0)
+    mount_paired : (bytes : List ℕ) → Paired (mount bytes) (ready_call (ready_on vs) (mount bytes)) (ready_call (ready_on ws) (mount bytes))
+    mount_paired bytes = by (eqb is.0 0)
       where
-        out : List ℤ → Bool → (ℕ × ℕ) × ReadyState
-        out values ok = cond ok (verdict o levels bytes, record { levels = levels; values = values; program = decoded_code bytes (opening bytes) }) (verdict o levels bytes, one_side values)
+        is : ℕ × ℕ
+        is = verdict o levels bytes
 
-        by : (ok : Bool) → Paired (mount bytes) (allowed (lists.mounted (out vs ok).0) (is_ready (out vs ok).1)) (allowed (lists.mounted (out ws ok).0) (is_ready (out ws ok).1))
+        out : List ℤ → Bool → (ℕ × ℕ) × ReadyState Order
+        out values ok = cond ok (is, record (ready_on values) { program = decoded_code bytes (opening bytes) }) (is, ready_on values)
+
+        by : (ok : Bool) →
+            Paired (mount bytes) (allowed (lists.mounted (out vs ok).0) (is_ready (out vs ok).1))
+            (allowed (lists.mounted (out ws ok).0) (is_ready (out ws ok).1))
         by true = both_allowed no_show refl (λ _. same_ready alike)
         by false = both_allowed no_show refl (λ _. same_ready alike)
 
-    ready_paired : (c : Call) → Paired c (outcome o (is_ready (one_side vs)) c) (outcome o (is_ready (one_side ws)) c)
-    ready_paired (grade _ _) = both_disallowed
-    ready_paired seal = both_disallowed
+    show_paired : (other long : ℕ) → Paired (show other long) (ready_call (ready_on vs) (show other long)) (ready_call (ready_on ws) (show other long))
+    show_paired other long =
+        let buffer : List ℕ = replicate long 0 in
+        let Same : ℕ → Type 0 = λ x. shown_over o levels vs x buffer ≡ shown_over o levels ws x buffer in
+        both_allowed (λ e. ap sheet_shown (subst Same (sym (eqb-true other w e)) (same_sheet o w levels vs ws alike buffer))) refl
+        (λ _. same_ready alike)
+
+    ready_paired : (c : Call) → Paired c (ready_call (ready_on vs) c) (ready_call (ready_on ws) c)
     ready_paired (mount bytes) = mount_paired bytes
     ready_paired (lists.set v x) = set_paired v x x (λ _ _. refl)
     ready_paired (read v) = both_allowed no_show refl (λ _. same_ready alike)
-    ready_paired (show other long) = both_allowed (λ e. subst (λ x. sheet_shown (show_outcome o (one_side vs) x (replicate long 0)) ≡ sheet_shown (show_outcome o (one_side ws) x (replicate long 0))) (sym (eqb-true other w e)) (same_sheet o w levels vs ws program alike (replicate long 0))) refl (λ _. same_ready alike)
+    ready_paired (show other long) = show_paired other long
     ready_paired start = both_allowed no_show refl (λ _. same_running alike)
-    ready_paired (advance _) = both_disallowed
-    ready_paired end = both_disallowed
     ready_paired unseal = both_allowed no_show refl (λ _. same_setup)
+    ready_paired _ = both_disallowed
 
     module _ (r q : RunState) (safe : Safe o levels program) (way : UnderWay program vs r) (way' : UnderWay program ws q) where
-      abbrev running_side : List ℤ → RunState → RunningState
-      running_side values s = record { levels = levels; remembered = values; program = program; run = s }
+      abbrev running_on : List ℤ → RunState → RunningState Order
+      running_on values s = record { lattice = o; levels = levels; remembered = values; program = program; run = s }
 
-      end_paired : Paired end (outcome o (is_running (running_side vs r)) end) (outcome o (is_running (running_side ws q)) end)
+      -- two halted runs of a safe program
+      both_kept : is_halted r.status ≡ true → is_halted q.status ≡ true → SameWhenOpen o levels w (values_of r.machine) (values_of q.machine)
+      both_kept halted halted' =
+          by r.machine q.machine way.reached way'.reached (eqb-true _ _ (sym way.honest.halted_at_the_exit ∙ halted))
+          (eqb-true _ _ (sym way'.honest.halted_at_the_exit ∙ halted'))
+        where
+          by : (m n : Machine) → Steps program way.count (at 0 [] vs) m → Steps program way'.count (at 0 [] ws) n →
+              label_of m ≡ length program → label_of n ≡ length program → SameWhenOpen o levels w (values_of m) (values_of n)
+          by (at l s vs') (at l' t ws') left right e e' =
+              safe.keeps_closed w vs ws alike way.count way'.count s t vs' ws' (subst (λ x. Steps program way.count (at 0 [] vs) (at x s vs')) e left)
+              (subst (λ x. Steps program way'.count (at 0 [] ws) (at x t ws')) e' right)
+
+      end_paired : Paired end (running_call (running_on vs r) end) (running_call (running_on ws q) end)
       end_paired = by (is_halted r.status) (is_halted q.status) refl refl
         where
-          out : List ℤ → RunState → Bool → ℕ × ReadyState
-          out values s halted = cond halted (1, one_side (values_of s.machine)) (0, one_side values)
+          out : List ℤ → RunState → Bool → ℕ × ReadyState Order
+          out values s halted = cond halted (1, ready_on (values_of s.machine)) (0, ready_on values)
 
-          by : (x y : Bool) → is_halted r.status ≡ x → is_halted q.status ≡ y → Paired end (allowed (lists.ended (out vs r x).0) (is_ready (out vs r x).1)) (allowed (lists.ended (out ws q y).0) (is_ready (out ws q y).1))
-          by true true e f = both_allowed no_show refl (λ _. same_ready (both_kept levels vs ws program r q safe.keeps_closed way way' e f alike))
+          differ : {m n : ℕ} → (m ≡ n → ⊥) → {X : Type 0} → ◌≡◌ {A = List ℕ} (m ∷ []) (n ∷ []) → X
+          differ h e = absurd (h (ap (λ (xs : List ℕ). get_or xs 0 0) e))
+
+          by : (x y : Bool) → is_halted r.status ≡ x → is_halted q.status ≡ y →
+              Paired end (allowed (lists.ended (out vs r x).0) (is_ready (out vs r x).1)) (allowed (lists.ended (out ws q y).0) (is_ready (out ws q y).1))
+          by true true e f = both_allowed no_show refl (λ _. same_ready (both_kept e f))
           by false false e f = both_allowed no_show refl (λ _. same_ready alike)
-          by true false e f = both_allowed no_show refl (λ h. absurd (omega (arith, ap (λ (xs : List ℕ). get_or xs 0 0) h)))
-          by false true e f = both_allowed no_show refl (λ h. absurd (omega (arith, ap (λ (xs : List ℕ). get_or xs 0 0) h)))
+          by true false e f = both_allowed no_show refl (differ (λ e. omega arith))
+          by false true e f = both_allowed no_show refl (differ (λ e. omega arith))
 
-      running_paired : (c : Call) → Paired c (outcome o (is_running (running_side vs r)) c) (outcome o (is_running (running_side ws q)) c)
-      running_paired (grade _ _) = both_disallowed
-      running_paired seal = both_disallowed
-      running_paired (mount _) = both_disallowed
-      running_paired (lists.set _ _) = both_disallowed
-      running_paired (read _) = both_disallowed
-      running_paired (show _ _) = both_disallowed
-      running_paired start = both_disallowed
+      running_paired : (c : Call) → Paired c (running_call (running_on vs r) c) (running_call (running_on ws q) c)
       running_paired (advance budget) = both_allowed no_show refl (λ _. same_running alike)
       running_paired end = end_paired
-      running_paired unseal = both_disallowed
+      running_paired _ = both_disallowed
 
-  call_paired : {s t : State} → Related s t → Good o s → Good o t → (c : Call) → Paired c (outcome o s c) (outcome o t c)
-  call_paired same_setup (good_setup {levels = levels} g) h c = setup_paired levels g.sized c
+  call_paired : {s t : State} → Related s t → Good o s → Good o t → (c : Call) → Paired c (outcome s c) (outcome t c)
+  call_paired (same_setup {levels = levels}) g h c = setup_paired levels c
   call_paired (same_ready {levels = levels} {vs = vs} {ws = ws} {program = program} alike) g h c = ready_paired levels vs ws program alike c
-  call_paired (same_running {levels = levels} {vs = vs} {ws = ws} {program = program} {r = r} {q = q} alike) (good_running g safe long way) (good_running g' safe' long' way') c = running_paired levels vs ws program alike r q safe way way' c
+  call_paired (same_running {levels = levels} {vs = vs} {ws = ws} {program = program} {r = r} {q = q} alike) g h c =
+      let left = run_of g in
+      let right = run_of h in
+      running_paired levels vs ws program alike r q left.0 left.1 right.1 c
 
-  budgets_paired : {s t : State} → Related s t → (a b : ℕ) → Paired (advance a) (outcome o s (advance a)) (outcome o t (advance b))
+  budgets_paired : {s t : State} → Related s t → (a b : ℕ) → Paired (advance a) (outcome s (advance a)) (outcome t (advance b))
   budgets_paired same_setup a b = both_disallowed
   budgets_paired (same_ready alike) a b = both_disallowed
   budgets_paired (same_running alike) a b = both_allowed no_show refl (λ _. same_running alike)
 
-  closed_paired : {s t : State} → Related s t → (v : ℕ) (x y : ℤ) → o.at_most (get_or (counts.levels_of s) v 0) w ≡ false → Paired (lists.set v x) (outcome o s (lists.set v x)) (outcome o t (lists.set v y))
+  closed_paired : {s t : State} → Related s t → (v : ℕ) (x y : ℤ) → counts.open_in s w v ≡ false →
+      Paired (lists.set v x) (outcome s (lists.set v x)) (outcome t (lists.set v y))
   closed_paired same_setup v x y h = both_disallowed
-  closed_paired (same_ready {levels = levels} {vs = vs} {ws = ws} {program = program} alike) v x y h = set_paired levels vs ws program alike v x y (λ _ low. absurd (true≢false (sym low ∙ h)))
+  closed_paired (same_ready {levels = levels} {vs = vs} {ws = ws} {program = program} alike) v x y h =
+      set_paired levels vs ws program alike v x y (λ _ low. absurd (true≢false (sym low ∙ h)))
   closed_paired (same_running alike) v x y h = both_disallowed
 
   -- The two lists from two such states.
@@ -175,10 +207,15 @@ module _ (o : Order) (laws : Laws o) (w : ℕ) where
   )
 
   module _ (place : ℕ) (s : State) (c d : Call) (calls others : List Call) (same_show : shows_to w c ≡ shows_to w d) where
+    abbrev ToSee : State → State → Type 0
+    ToSee s t =
+        ends (transcript_from (place + 1) s calls) ≡ ends (transcript_from (place + 1) t others) →
+        SeenAlike calls others (transcript_from (place + 1) s calls) (transcript_from (place + 1) t others)
+
     turn : (left right : Outcome) → Paired c left right → GoodOutcome o left → GoodOutcome o right →
-        ((t : State) → Related (state_after s left) t → Good o (state_after s left) → Good o t → ends (transcript_from o (place + 1) (state_after s left) calls) ≡ ends (transcript_from o (place + 1) t others) → SeenAlike calls others (transcript_from o (place + 1) (state_after s left) calls) (transcript_from o (place + 1) t others)) →
-        ends (after_call place left (λ next. transcript_from o (place + 1) next calls)) ≡ ends (after_call place right (λ next. transcript_from o (place + 1) next others)) →
-        SeenAlike (c ∷ calls) (d ∷ others) (after_call place left (λ next. transcript_from o (place + 1) next calls)) (after_call place right (λ next. transcript_from o (place + 1) next others))
+        ((t : State) → Related (state_after s left) t → Good o (state_after s left) → Good o t → ToSee (state_after s left) t) →
+        ends (rest_of place calls left) ≡ ends (rest_of place others right) →
+        SeenAlike (c ∷ calls) (d ∷ others) (rest_of place calls left) (rest_of place others right)
     turn disallowed disallowed both_disallowed g h rest e =
         record {
           same_sheets = ap₂ (λ (x : Bool) (xs : List (List ℕ)). cond x [] [] ∷ xs) same_show (ap (map _) (none_made calls ∙ sym (none_made others)));
@@ -206,14 +243,23 @@ module _ (o : Order) (laws : Laws o) (w : ℕ) where
         answer_here true false e h = absurd (true≢false e)
         answer_here false true e h = absurd (false≢true e)
 
-  seen_alike : {s t : State} {calls others : List Call} → Alike o w s calls others → Related s t → Good o s → Good o t → (place : ℕ) → ends (transcript_from o place s calls) ≡ ends (transcript_from o place t others) → SeenAlike calls others (transcript_from o place s calls) (transcript_from o place t others)
+  seen_alike : {s t : State} {calls others : List Call} → Alike w s calls others → Related s t → Good o s → Good o t → (place : ℕ) →
+      ends (transcript_from place s calls) ≡ ends (transcript_from place t others) →
+      SeenAlike calls others (transcript_from place s calls) (transcript_from place t others)
   seen_alike counts.none related g h place e = record { same_sheets = refl; same_answers = refl }
   seen_alike {s = s} {t = t} (counts.same {call = c} {calls = calls} {others = others} rest) related g h place e =
-      turn place s c c calls others refl (outcome o s c) (outcome o t c) (call_paired related g h c) (stays_good o laws g c) (stays_good o laws h c) (λ next r g' h' e'. seen_alike rest r g' h' (place + 1) e') e
+      turn place s c c calls others refl (outcome s c) (outcome t c) (call_paired related g h c) (stays_good o laws g c) (stays_good o laws h c)
+      (λ next r g' h' e'. seen_alike rest r g' h' (place + 1) e') e
   seen_alike {s = s} {t = t} (counts.budgets {a = a} {b = b} {calls = calls} {others = others} rest) related g h place e =
-      turn place s (advance a) (advance b) calls others refl (outcome o s (advance a)) (outcome o t (advance b)) (budgets_paired related a b) (stays_good o laws g (advance a)) (stays_good o laws h (advance b)) (λ next r g' h' e'. seen_alike rest r g' h' (place + 1) e') e
+      let c : Call = advance a in
+      let d : Call = advance b in
+      turn place s c d calls others refl (outcome s c) (outcome t d) (budgets_paired related a b) (stays_good o laws g c) (stays_good o laws h d)
+      (λ next r g' h' e'. seen_alike rest r g' h' (place + 1) e') e
   seen_alike {s = s} {t = t} (counts.closed {v = v} {x = x} {y = y} {calls = calls} {others = others} small high rest) related g h place e =
-      turn place s (lists.set v x) (lists.set v y) calls others refl (outcome o s (lists.set v x)) (outcome o t (lists.set v y)) (closed_paired related v x y high) (stays_good o laws g (lists.set v x)) (stays_good o laws h (lists.set v y)) (λ next r g' h' e'. seen_alike rest r g' h' (place + 1) e') e
+      let c : Call = lists.set v x in
+      let d : Call = lists.set v y in
+      turn place s c d calls others refl (outcome s c) (outcome t d) (closed_paired related v x y high) (stays_good o laws g c) (stays_good o laws h d)
+      (λ next r g' h' e'. seen_alike rest r g' h' (place + 1) e') e
 
 none_differ : (xs : List ℕ) → differing xs xs ≡ 0
 none_differ [] = refl
@@ -226,5 +272,6 @@ no_bytes_differ (x ∷ xs) = ap₂ (λ (m : ℕ) (n : ℕ). m + n) (none_differ 
 pub closed_values_stay_closed : (o : Order) → Laws o → (calls : List Call) → ClosedValuesStayClosed o calls
 closed_values_stay_closed o laws calls w others alike agree =
     let good = new_is_good o laws in
-    let seen = seen_alike o laws w alike (same_setup) good good 0 agree in
-    (subst (λ xs. differing_bytes (sheets w calls (transcript o calls)) xs ≡ 0) seen.same_sheets (no_bytes_differ (sheets w calls (transcript o calls))), seen.same_answers)
+    let seen = seen_alike o laws w alike same_setup good good 0 agree in
+    let left = sheets w calls (transcript o calls) in
+    (subst (λ xs. differing_bytes left xs ≡ 0) seen.same_sheets (no_bytes_differ left), seen.same_answers)

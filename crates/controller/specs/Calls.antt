@@ -10,9 +10,9 @@ use Rattle.checker.specs.WellClaimed.{Mountable, FirstBroken}
 use Rattle.controller.specs.declared.refusal.Refusal.TheVariants.{NoVariable, NoLevel, ShortBuffer}
 use Rattle.controller.specs.declared.ending.Ending.TheVariants.{Unfinished, Halted}
 use Rattle.controller.specs.Answers.{refusal_number, ending_number}
-use Rattle.controller.specs.State.{SetupState, ReadyState, RunningState, new_state}
+use Rattle.controller.specs.State.{SetupState, ReadyState, RunningState}
 use Rattle.controller.specs.Sheet.{open_count, sheet}
-use Rattle.controller.specs.Lists.{Call, grade, seal, mount, set, read, show, start, advance, end, unseal, Answer, graded, sealed, mounted, was_set, was_read, shown, started, advanced, ended, unsealed, not_allowed, State, in_setup, is_ready, is_running, Outcome, allowed, disallowed, outcome, transcript}
+use Rattle.controller.specs.Lists.{Call, grade, seal, mount, set, read, show, start, advance, end, unseal, Answer, graded, sealed, mounted, was_set, was_read, shown, started, advanced, ended, unsealed, not_allowed, State, in_setup, is_ready, is_running, Outcome, allowed, disallowed, outcome, new_controller, transcript}
 
 -- The names of the states, and the one state that each call belongs to.
 pub data StateName : Type 0 where
@@ -28,101 +28,104 @@ name_of (is_running _) = running
 abbrev pub belongs_to : Call → StateName
 belongs_to (grade _ _) = setup
 belongs_to seal = setup
-belongs_to (mount _) = ready
-belongs_to (set _ _) = ready
-belongs_to (read _) = ready
-belongs_to (show _ _) = ready
-belongs_to start = ready
 belongs_to (advance _) = running
 belongs_to end = running
-belongs_to unseal = ready
+belongs_to _ = ready
 
 -- The rules. A refused call leaves the state as it was.
-pub data LeadsTo (o : Order) : State → Call → Answer → State → Type 0 where
+pub data LeadsTo : State → Call → Answer → State → Type 0 where
   grade_accepted :
-      {s : SetupState} {v l : ℕ} → v < 32 → l < o.span →
-      LeadsTo o (in_setup s) (grade v l) (graded 0)
-      (in_setup (record { levels = slice_set s.levels v l }))
+      {s : SetupState Order} {v l : ℕ} → v < 32 → l < s.lattice.span →
+      LeadsTo (in_setup s) (grade v l) (graded 0)
+      (in_setup (record s { levels = slice_set s.levels v l }))
   grade_no_variable :
-      {s : SetupState} {v l : ℕ} → 32 ≤ v →
-      LeadsTo o (in_setup s) (grade v l) (graded (refusal_number NoVariable)) (in_setup s)
+      {s : SetupState Order} {v l : ℕ} → 32 ≤ v →
+      LeadsTo (in_setup s) (grade v l) (graded (refusal_number NoVariable)) (in_setup s)
   grade_no_level :
-      {s : SetupState} {v l : ℕ} → v < 32 → o.span ≤ l →
-      LeadsTo o (in_setup s) (grade v l) (graded (refusal_number NoLevel)) (in_setup s)
+      {s : SetupState Order} {v l : ℕ} → v < 32 → s.lattice.span ≤ l →
+      LeadsTo (in_setup s) (grade v l) (graded (refusal_number NoLevel)) (in_setup s)
   seal_accepted :
-      {s : SetupState} →
-      LeadsTo o (in_setup s) seal sealed
-      (is_ready (record { levels = s.levels; values = replicate 32 (pos 0); program = [] }))
+      {s : SetupState Order} →
+      LeadsTo (in_setup s) seal sealed
+      (is_ready (record {
+        lattice = s.lattice; levels = s.levels; values = replicate 32 (pos 0); program = []
+      }))
   mount_accepted :
-      {s : ReadyState} {bytes : List ℕ} → Mountable o s.levels bytes →
-      LeadsTo o (is_ready s) (mount bytes) (mounted (0, 0))
+      {s : ReadyState Order} {bytes : List ℕ} → Mountable s.lattice s.levels bytes →
+      LeadsTo (is_ready s) (mount bytes) (mounted (0, 0))
       (is_ready (record s { program = decoded_code bytes (opening bytes) }))
   mount_refused :
-      {s : ReadyState} {bytes : List ℕ} {number label : ℕ} → FirstBroken o s.levels bytes number label →
-      LeadsTo o (is_ready s) (mount bytes) (mounted (number, label)) (is_ready s)
+      {s : ReadyState Order} {bytes : List ℕ} {number label : ℕ} → FirstBroken s.lattice s.levels bytes number label →
+      LeadsTo (is_ready s) (mount bytes) (mounted (number, label)) (is_ready s)
   set_accepted :
-      {s : ReadyState} {v : ℕ} {x : ℤ} → v < 32 →
-      LeadsTo o (is_ready s) (set v x) (was_set 0) (is_ready (record s { values = slice_set s.values v x }))
+      {s : ReadyState Order} {v : ℕ} {x : ℤ} → v < 32 →
+      LeadsTo (is_ready s) (set v x) (was_set 0) (is_ready (record s { values = slice_set s.values v x }))
   set_no_variable :
-      {s : ReadyState} {v : ℕ} {x : ℤ} → 32 ≤ v →
-      LeadsTo o (is_ready s) (set v x) (was_set (refusal_number NoVariable)) (is_ready s)
+      {s : ReadyState Order} {v : ℕ} {x : ℤ} → 32 ≤ v →
+      LeadsTo (is_ready s) (set v x) (was_set (refusal_number NoVariable)) (is_ready s)
   read_accepted :
-      {s : ReadyState} {v : ℕ} → v < 32 →
-      LeadsTo o (is_ready s) (read v) (was_read (0, slice_index_or s.values v (pos 0))) (is_ready s)
+      {s : ReadyState Order} {v : ℕ} → v < 32 →
+      LeadsTo (is_ready s) (read v) (was_read (0, slice_index_or s.values v (pos 0))) (is_ready s)
   read_no_variable :
-      {s : ReadyState} {v : ℕ} → 32 ≤ v →
-      LeadsTo o (is_ready s) (read v) (was_read (refusal_number NoVariable, pos 0)) (is_ready s)
+      {s : ReadyState Order} {v : ℕ} → 32 ≤ v →
+      LeadsTo (is_ready s) (read v) (was_read (refusal_number NoVariable, pos 0)) (is_ready s)
   show_accepted :
-      {s : ReadyState} {observer length : ℕ} → observer < o.span → 5 * open_count o s observer ≤ length →
-      LeadsTo o (is_ready s) (show observer length)
-      (shown (0, open_count o s observer) (sheet o s observer)) (is_ready s)
+      {s : ReadyState Order} {observer length : ℕ} → observer < s.lattice.span → 5 * open_count s.lattice s.levels observer ≤ length →
+      LeadsTo (is_ready s) (show observer length)
+      (shown (0, open_count s.lattice s.levels observer) (sheet s.lattice s.levels s.values observer)) (is_ready s)
   show_no_level :
-      {s : ReadyState} {observer length : ℕ} → o.span ≤ observer →
-      LeadsTo o (is_ready s) (show observer length) (shown (refusal_number NoLevel, 0) []) (is_ready s)
+      {s : ReadyState Order} {observer length : ℕ} → s.lattice.span ≤ observer →
+      LeadsTo (is_ready s) (show observer length) (shown (refusal_number NoLevel, 0) []) (is_ready s)
   show_short_buffer :
-      {s : ReadyState} {observer length : ℕ} → observer < o.span → length < 5 * open_count o s observer →
-      LeadsTo o (is_ready s) (show observer length) (shown (refusal_number ShortBuffer, 0) []) (is_ready s)
+      {s : ReadyState Order} {observer length : ℕ} → observer < s.lattice.span → length < 5 * open_count s.lattice s.levels observer →
+      LeadsTo (is_ready s) (show observer length) (shown (refusal_number ShortBuffer, 0) []) (is_ready s)
   start_accepted :
-      {s : ReadyState} →
-      LeadsTo o (is_ready s) start started
-      (is_running (record { levels = s.levels; remembered = s.values; program = s.program; run = begun s.program s.values }))
+      {s : ReadyState Order} →
+      LeadsTo (is_ready s) start started
+      (is_running (record {
+        lattice = s.lattice; levels = s.levels; remembered = s.values; program = s.program; run = begun s.program s.values
+      }))
   unseal_accepted :
-      {s : ReadyState} → LeadsTo o (is_ready s) unseal unsealed (in_setup (record { levels = s.levels }))
+      {s : ReadyState Order} → LeadsTo (is_ready s) unseal unsealed (in_setup (record { lattice = s.lattice; levels = s.levels }))
   advance_accepted :
-      {s : RunningState} {budget count : ℕ} {after : RunState} → AdvancesTo s.program budget s.run count after →
-      LeadsTo o (is_running s) (advance budget) (advanced (status_number after.status, count))
+      {s : RunningState Order} {budget count : ℕ} {after : RunState} → AdvancesTo s.program budget s.run count after →
+      LeadsTo (is_running s) (advance budget) (advanced (status_number after.status, count))
       (is_running (record s { run = after }))
   end_halted :
-      {s : RunningState} → s.run.status ≡ status.Halted →
-      LeadsTo o (is_running s) end (ended (ending_number Halted))
-      (is_ready (record { levels = s.levels; values = values_of s.run.machine; program = s.program }))
+      {s : RunningState Order} → s.run.status ≡ status.Halted →
+      LeadsTo (is_running s) end (ended (ending_number Halted))
+      (is_ready (record {
+        lattice = s.lattice; levels = s.levels; values = values_of s.run.machine; program = s.program
+      }))
   end_unfinished :
-      {s : RunningState} → s.run.status ≢ status.Halted →
-      LeadsTo o (is_running s) end (ended (ending_number Unfinished))
-      (is_ready (record { levels = s.levels; values = s.remembered; program = s.program }))
+      {s : RunningState Order} → s.run.status ≢ status.Halted →
+      LeadsTo (is_running s) end (ended (ending_number Unfinished))
+      (is_ready (record {
+        lattice = s.lattice; levels = s.levels; values = s.remembered; program = s.program
+      }))
 
 -- The answers of a list from a place and a state on: each call's own, and then those of the calls that are left, on the
 -- state that it leads to. A call in a state that it does not belong to is answered so, with its place, and ends the list.
-pub data AnswersFrom (o : Order) : ℕ → State → List Call → List Answer → Type 0 where
-  none : {place : ℕ} {s : State} → AnswersFrom o place s [] []
+pub data AnswersFrom : ℕ → State → List Call → List Answer → Type 0 where
+  none : {place : ℕ} {s : State} → AnswersFrom place s [] []
   made :
       {place : ℕ} {s t : State} {call : Call} {answer : Answer} {calls : List Call} {answers : List Answer} →
-      LeadsTo o s call answer t → AnswersFrom o (place + 1) t calls answers →
-      AnswersFrom o place s (call ∷ calls) (answer ∷ answers)
+      LeadsTo s call answer t → AnswersFrom (place + 1) t calls answers →
+      AnswersFrom place s (call ∷ calls) (answer ∷ answers)
   stopped :
       {place : ℕ} {s : State} {call : Call} {calls : List Call} → name_of s ≢ belongs_to call →
-      AnswersFrom o place s (call ∷ calls) (not_allowed place ∷ [])
+      AnswersFrom place s (call ∷ calls) (not_allowed place ∷ [])
 
 -- The answers of a list on a new controller.
 abbrev pub AnswersOf : Order → List Call → List Answer → Type 0
-AnswersOf o calls answers = AnswersFrom o 0 (in_setup (new_state o)) calls answers
+AnswersOf o calls answers = AnswersFrom 0 (new_controller o) calls answers
 
 -- The functions say what the rules say: of each call its answer and the state that it leads to, and of each list its
 -- answers.
 pub record TranscriptFollowsTheRules (o : Order) : Type 0 where
   pub rule_gives_the_outcome :
-      {s t : State} {call : Call} {answer : Answer} → LeadsTo o s call answer t → outcome o s call ≡ allowed answer t
-  pub elsewhere_is_disallowed : (s : State) (call : Call) → name_of s ≢ belongs_to call → outcome o s call ≡ disallowed
+      {s t : State} {call : Call} {answer : Answer} → LeadsTo s call answer t → outcome s call ≡ allowed answer t
+  pub elsewhere_is_disallowed : (s : State) (call : Call) → name_of s ≢ belongs_to call → outcome s call ≡ disallowed
   pub rules_give_the_transcript :
       {calls : List Call} {answers : List Answer} → AnswersOf o calls answers → transcript o calls ≡ answers
   pub transcript_is_by_the_rules : (calls : List Call) → AnswersOf o calls (transcript o calls)

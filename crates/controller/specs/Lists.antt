@@ -31,11 +31,14 @@ pub data Answer : Type 0 where
   unsealed : Answer
   not_allowed : ℕ → Answer
 
--- The state that a controller is in.
+-- The state that a controller is in. Of its lattice a list needs the order alone.
 pub data State : Type 0 where
-  in_setup : SetupState → State
-  is_ready : ReadyState → State
-  is_running : RunningState → State
+  in_setup : SetupState Order → State
+  is_ready : ReadyState Order → State
+  is_running : RunningState Order → State
+
+abbrev pub the_order : Order → Order
+the_order o = o
 
 -- A state allows a call, and this is the answer and the state then; or it does not.
 pub data Outcome : Type 0 where
@@ -46,46 +49,40 @@ pub data Outcome : Type 0 where
 abbrev pub sheet_shown : (ℕ × ℕ) × List ℕ → Answer
 sheet_shown out = shown out.0 (take (5 * out.0.1) out.1)
 
-abbrev pub setup_call : Order → SetupState → Call → Outcome
-setup_call o s (grade variable level) = allowed (graded (grade_outcome o s variable level).0) (in_setup (grade_outcome o s variable level).1)
-setup_call o s seal = allowed sealed (is_ready (sealed_state s))
-setup_call o s (mount _) = disallowed
-setup_call o s (set _ _) = disallowed
-setup_call o s (read _) = disallowed
-setup_call o s (show _ _) = disallowed
-setup_call o s start = disallowed
-setup_call o s (advance _) = disallowed
-setup_call o s end = disallowed
-setup_call o s unseal = disallowed
+abbrev pub setup_call : SetupState Order → Call → Outcome
+setup_call s (grade variable level) =
+    let out : ℕ × SetupState Order = grade_outcome the_order s variable level in
+    allowed (graded out.0) (in_setup out.1)
+setup_call s seal = allowed sealed (is_ready (sealed_state s))
+setup_call s _ = disallowed
 
-abbrev pub ready_call : Order → ReadyState → Call → Outcome
-ready_call o s (grade _ _) = disallowed
-ready_call o s seal = disallowed
-ready_call o s (mount bytes) = allowed (mounted (mount_outcome o s bytes).0) (is_ready (mount_outcome o s bytes).1)
-ready_call o s (set variable value) = allowed (was_set (set_outcome s variable value).0) (is_ready (set_outcome s variable value).1)
-ready_call o s (read variable) = allowed (was_read (read_outcome s variable)) (is_ready s)
-ready_call o s (show observer length) = allowed (sheet_shown (show_outcome o s observer (replicate length 0))) (is_ready s)
-ready_call o s start = allowed started (is_running (started_state s))
-ready_call o s (advance _) = disallowed
-ready_call o s end = disallowed
-ready_call o s unseal = allowed unsealed (in_setup (unsealed_state s))
+abbrev pub ready_call : ReadyState Order → Call → Outcome
+ready_call s (mount bytes) =
+    let out : (ℕ × ℕ) × ReadyState Order = mount_outcome the_order s bytes in
+    allowed (mounted out.0) (is_ready out.1)
+ready_call s (set variable value) =
+    let out : ℕ × ReadyState Order = set_outcome s variable value in
+    allowed (was_set out.0) (is_ready out.1)
+ready_call s (read variable) = allowed (was_read (read_outcome s variable)) (is_ready s)
+ready_call s (show observer length) =
+    allowed (sheet_shown (show_outcome the_order s observer (replicate length 0))) (is_ready s)
+ready_call s start = allowed started (is_running (started_state s))
+ready_call s unseal = allowed unsealed (in_setup (unsealed_state s))
+ready_call s _ = disallowed
 
-abbrev pub running_call : RunningState → Call → Outcome
-running_call s (grade _ _) = disallowed
-running_call s seal = disallowed
-running_call s (mount _) = disallowed
-running_call s (set _ _) = disallowed
-running_call s (read _) = disallowed
-running_call s (show _ _) = disallowed
-running_call s start = disallowed
-running_call s (advance budget) = allowed (advanced (advance_outcome s budget).0) (is_running (advance_outcome s budget).1)
-running_call s end = allowed (ended (end_outcome s).0) (is_ready (end_outcome s).1)
-running_call s unseal = disallowed
+abbrev pub running_call : RunningState Order → Call → Outcome
+running_call s (advance budget) =
+    let out : (ℕ × ℕ) × RunningState Order = advance_outcome s budget in
+    allowed (advanced out.0) (is_running out.1)
+running_call s end =
+    let out : ℕ × ReadyState Order = end_outcome s in
+    allowed (ended out.0) (is_ready out.1)
+running_call s _ = disallowed
 
-abbrev pub outcome : Order → State → Call → Outcome
-outcome o (in_setup s) call = setup_call o s call
-outcome o (is_ready s) call = ready_call o s call
-outcome o (is_running s) call = running_call s call
+abbrev pub outcome : State → Call → Outcome
+outcome (in_setup s) = setup_call s
+outcome (is_ready s) = ready_call s
+outcome (is_running s) = running_call s
 
 -- The answers from a call on; one that the state does not allow ends the list.
 abbrev pub after_call : ℕ → Outcome → (State → List Answer) → List Answer
@@ -93,10 +90,14 @@ after_call place (allowed answer s) rest = answer ∷ rest s
 after_call place disallowed rest = not_allowed place ∷ []
 
 -- The answers of a list in order, from a place in it and a state.
-abbrev pub transcript_from : Order → ℕ → State → List Call → List Answer
-transcript_from o place s [] = []
-transcript_from o place s (call ∷ calls) = after_call place (outcome o s call) (λ next. transcript_from o (place + 1) next calls)
+abbrev pub transcript_from : ℕ → State → List Call → List Answer
+transcript_from place s [] = []
+transcript_from place s (call ∷ calls) =
+    after_call place (outcome s call) (λ next. transcript_from (place + 1) next calls)
 
 -- On a new controller.
+abbrev pub new_controller : Order → State
+new_controller o = in_setup (new_state the_order o)
+
 abbrev pub transcript : Order → List Call → List Answer
-transcript o calls = transcript_from o 0 (in_setup (new_state o)) calls
+transcript o calls = transcript_from 0 (new_controller o) calls

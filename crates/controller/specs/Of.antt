@@ -1,7 +1,6 @@
 -- The plain terms of a controller, of calls and of answers. Assumes nothing.
 use Rattle.std.specs.Prelude.{◌≡◌, ℕ, ◌/◌, List, [], map, length, Some, None, Ok, Err, vec_items, Option, Result}
 use Rattle.lattice.specs.Order.{Order}
-use Rattle.push.specs.Of.{run_state}
 use Rattle.controller.specs.State.{SetupState, ReadyState, RunningState}
 use Rattle.checker.specs.Faults.{mount_answer}
 use Rattle.controller.specs.Answers.{refusal_number, done_answer, read_answer, advance_answer, ending_number}
@@ -11,21 +10,9 @@ use Rattle.controller.specs.declared.call.Call.{Call}
 use Rattle.controller.specs.declared.call.Call.TheVariants.{Grade, Seal, Mount, Set, Read, Show, Start, Advance, End, Unseal}
 use Rattle.controller.specs.declared.answer.Answer.{Answer}
 use Rattle.controller.specs.declared.answer.Answer.TheVariants.{Graded, Sealed, Mounted, WasSet, WasRead, Shown, Started, Advanced, Ended, Unsealed, NotAllowed}
-use Rattle.controller.specs.declared.answer.Sheet.{Sheet}
+use Rattle.controller.specs.declared.sheet.Sheet.{Sheet}
 use Rattle.controller.specs.declared.phase.Phase.{Phase}
 use Rattle.controller.specs.declared.phase.Phase.TheVariants as phase
-use Rattle.controller.specs.declared.setup.Setup.{Setup}
-use Rattle.controller.specs.declared.ready.Ready.{Ready}
-use Rattle.controller.specs.declared.running.Running.{Running}
-
-abbrev pub setup_state : {L : Type 0} → Setup L → SetupState
-setup_state s = record { levels = s.grades.levels }
-
-abbrev pub ready_state : {L : Type 0} → Ready L → ReadyState
-ready_state s = record { levels = s.grades.levels; values = s.values; program = s.program }
-
-abbrev pub running_state : {L : Type 0} → Running L → RunningState
-running_state s = record { levels = s.grades.levels; remembered = s.remembered; program = s.run.program; run = run_state s.run }
 
 abbrev pub call_of : Call → plain.Call
 call_of (Grade variable level) = plain.grade variable level
@@ -64,21 +51,30 @@ answer_of (NotAllowed place) = plain.not_allowed place
 abbrev pub Transcribes : Order → List Call → List Answer → Type 0
 Transcribes o calls answers = map answer_of answers ≡ plain.transcript o (map call_of calls)
 
-abbrev pub state_of : {L : Type 0} → Phase L → plain.State
-state_of (phase.Setup s) = plain.in_setup (setup_state s)
-state_of (phase.Ready s) = plain.is_ready (ready_state s)
-state_of (phase.Running s) = plain.is_running (running_state s)
+-- The states over a lattice, as those over its order.
+abbrev pub setup_of : {L : Type 0} → (L → Order) → SetupState L → SetupState Order
+setup_of order s = record { lattice = order s.lattice; levels = s.levels }
 
-abbrev pub lattice_of : {L : Type 0} → Phase L → L
-lattice_of (phase.Setup s) = s.grades.lattice
-lattice_of (phase.Ready s) = s.grades.lattice
-lattice_of (phase.Running s) = s.grades.lattice
+abbrev pub ready_of : {L : Type 0} → (L → Order) → ReadyState L → ReadyState Order
+ready_of order s =
+    record { lattice = order s.lattice; levels = s.levels; values = s.values; program = s.program }
+
+abbrev pub running_of : {L : Type 0} → (L → Order) → RunningState L → RunningState Order
+running_of order s =
+    record {
+      lattice = order s.lattice;
+      levels = s.levels;
+      remembered = s.remembered;
+      program = s.program;
+      run = s.run;
+    }
+
+abbrev pub state_of : {L : Type 0} → (L → Order) → Phase L → plain.State
+state_of order (phase.Setup s) = plain.in_setup (setup_of order s)
+state_of order (phase.Ready s) = plain.is_ready (ready_of order s)
+state_of order (phase.Running s) = plain.is_running (running_of order s)
 
 -- What a call in some state came to.
-abbrev pub outcome_of : {L : Type 0} → Option (Phase L × Answer) → plain.Outcome
-outcome_of None = plain.disallowed
-outcome_of (Some step) = plain.allowed (answer_of step.1) (state_of step.0)
-
-abbrev pub KeepsLattice : {L : Type 0} → L → Option (Phase L × Answer) → Type 0
-KeepsLattice lattice None = Unit {0}
-KeepsLattice lattice (Some step) = lattice_of step.0 ≡ lattice
+abbrev pub outcome_of : {L : Type 0} → (L → Order) → Option (Phase L × Answer) → plain.Outcome
+outcome_of order None = plain.disallowed
+outcome_of order (Some step) = plain.allowed (answer_of step.1) (state_of order step.0)

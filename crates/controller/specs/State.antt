@@ -1,74 +1,98 @@
--- A controller in plain terms, and the outcome of each call on it. Assumes nothing.
-use Rattle.std.specs.Prelude.{ℕ, cond, List, [], replicate, ℤ, pos, ◌==◌, nat_lt, slice_index_or, slice_set}
+-- A controller in plain terms, and the outcome of each call on it: its answer, and the state then. Assumes nothing.
+use Rattle.std.specs.Prelude.{◌≡◌, ℕ, ◌<◌, if◌then◌else◌, List, [], length, replicate, ℤ, pos, ◌==◌, nat_lt, slice_index_or, slice_set}
 use Rattle.lattice.specs.Order.{Order}
 use Rattle.push.specs.declared.instruction.Instruction.{Instruction}
 use Rattle.push.specs.Run.{RunState, begun, run, status_number, is_halted, values_of}
 use Rattle.job.specs.Layout.{opening}
 use Rattle.checker.specs.Verdict.{verdict, decoded_code}
+use Rattle.checker.specs.Flow.{LevelsOfVariables}
 
--- In setup: each variable's level.
-pub record SetupState : Type 0 where
+-- In setup: the lattice, and each variable's level.
+pub record SetupState (L : Type 0) : Type 0 where
+  pub lattice : L
   pub levels : List ℕ
 
--- When ready: each variable's level and value, and the mounted program.
-pub record ReadyState : Type 0 where
+-- When ready: also each variable's value, and the mounted program.
+pub record ReadyState (L : Type 0) : Type 0 where
+  pub lattice : L
   pub levels : List ℕ
   pub values : List ℤ
   pub program : List Instruction
 
--- With a run under way: each variable's level, the values from before the run, the program, and the run.
-pub record RunningState : Type 0 where
+-- With a run under way: the values from before it, the program and the run.
+pub record RunningState (L : Type 0) : Type 0 where
+  pub lattice : L
   pub levels : List ℕ
   pub remembered : List ℤ
   pub program : List Instruction
   pub run : RunState
 
-abbrev pub new_state : Order → SetupState
-new_state o = record { levels = replicate 32 o.highest }
+-- What is true of the levels in every state: there are 32, each a level of the lattice where that has levels.
+pub record Graded (o : Order) (levels : List ℕ) : Type 0 where
+  pub sized : length levels ≡ 32
+  pub are_levels : 0 < o.span → LevelsOfVariables o levels
 
-abbrev pub grade_outcome : Order → SetupState → ℕ → ℕ → ℕ × SetupState
-grade_outcome o s variable level =
-    cond (nat_lt variable 32) (cond (nat_lt level o.span) (0, record { levels = slice_set s.levels variable level }) (2, s)) (1, s)
+-- In what follows `order` gives the order of a lattice. A new controller has every variable at the highest level.
+abbrev pub new_state : {L : Type 0} → (L → Order) → L → SetupState L
+new_state order lattice = record { lattice = lattice; levels = replicate 32 (order lattice).highest }
 
-abbrev pub sealed_state : SetupState → ReadyState
-sealed_state s = record { levels = s.levels; values = replicate 32 (pos 0); program = [] }
+abbrev pub grade_outcome : {L : Type 0} → (L → Order) → SetupState L → ℕ → ℕ → ℕ × SetupState L
+grade_outcome order s variable level =
+    if nat_lt variable 32
+    then if nat_lt level (order s.lattice).span
+      then (0, record s { levels = slice_set s.levels variable level })
+      else (2, s)
+    else (1, s)
 
-abbrev pub set_outcome : ReadyState → ℕ → ℤ → ℕ × ReadyState
+abbrev pub sealed_state : {L : Type 0} → SetupState L → ReadyState L
+sealed_state s =
+    record { lattice = s.lattice; levels = s.levels; values = replicate 32 (pos 0); program = [] }
+
+-- Mount answers the verdict on a job, and an accepted job's program replaces the one before.
+abbrev pub mounted : {L : Type 0} → ReadyState L → ℕ × ℕ → List Instruction → (ℕ × ℕ) × ReadyState L
+mounted s v program = if v.0 == 0 then (v, record s { program = program }) else (v, s)
+
+abbrev pub mount_outcome : {L : Type 0} → (L → Order) → ReadyState L → List ℕ → (ℕ × ℕ) × ReadyState L
+mount_outcome order s bytes =
+    mounted s (verdict (order s.lattice) s.levels bytes) (decoded_code bytes (opening bytes))
+
+abbrev pub set_outcome : {L : Type 0} → ReadyState L → ℕ → ℤ → ℕ × ReadyState L
 set_outcome s variable value =
-    cond (nat_lt variable 32) (0, record { levels = s.levels; values = slice_set s.values variable value; program = s.program }) (1, s)
+    if nat_lt variable 32 then (0, record s { values = slice_set s.values variable value }) else (1, s)
 
-abbrev pub read_outcome : ReadyState → ℕ → ℕ × ℤ
-read_outcome s variable = cond (nat_lt variable 32) (0, slice_index_or s.values variable (pos 0)) (1, pos 0)
+abbrev pub read_outcome : {L : Type 0} → ReadyState L → ℕ → ℕ × ℤ
+read_outcome s variable =
+    if nat_lt variable 32 then (0, slice_index_or s.values variable (pos 0)) else (1, pos 0)
 
 -- Unseal keeps the levels alone; seal makes values and program anew.
-abbrev pub unsealed_state : ReadyState → SetupState
-unsealed_state s = record { levels = s.levels }
-
--- A mount by its verdict: an accepted job's program replaces the one before.
-abbrev pub mounted : ReadyState → ℕ × ℕ → List Instruction → (ℕ × ℕ) × ReadyState
-mounted s v program = cond (v.0 == 0) (v, record { levels = s.levels; values = s.values; program = program }) (v, s)
-
--- Mount answers the verdict on a job.
-abbrev pub mount_outcome : Order → ReadyState → List ℕ → (ℕ × ℕ) × ReadyState
-mount_outcome o s bytes = mounted s (verdict o s.levels bytes) (decoded_code bytes (opening bytes))
+abbrev pub unsealed_state : {L : Type 0} → ReadyState L → SetupState L
+unsealed_state s = record { lattice = s.lattice; levels = s.levels }
 
 -- Start begins a run on the values, and remembers them.
-abbrev pub started_state : ReadyState → RunningState
-started_state s = record { levels = s.levels; remembered = s.values; program = s.program; run = begun s.program s.values }
-
--- An advance by the steps that were made and the run then.
-abbrev pub advanced : RunningState → ℕ × RunState → (ℕ × ℕ) × RunningState
-advanced s after =
-    ((status_number after.1.status, after.0), record { levels = s.levels; remembered = s.remembered; program = s.program; run = after.1 })
+abbrev pub started_state : {L : Type 0} → ReadyState L → RunningState L
+started_state s =
+    record {
+      lattice = s.lattice;
+      levels = s.levels;
+      remembered = s.values;
+      program = s.program;
+      run = begun s.program s.values;
+    }
 
 -- Advance answers the status and how many steps were made.
-abbrev pub advance_outcome : RunningState → ℕ → (ℕ × ℕ) × RunningState
+abbrev pub advanced : {L : Type 0} → RunningState L → ℕ × RunState → (ℕ × ℕ) × RunningState L
+advanced s after = ((status_number after.1.status, after.0), record s { run = after.1 })
+
+abbrev pub advance_outcome : {L : Type 0} → RunningState L → ℕ → (ℕ × ℕ) × RunningState L
 advance_outcome s budget = advanced s (run s.program budget s.run)
 
-abbrev pub ready_with : RunningState → List ℤ → ReadyState
-ready_with s values = record { levels = s.levels; values = values; program = s.program }
-
 -- End keeps the values of a halted run and answers 1; otherwise the remembered values come back and it answers 0.
-abbrev pub end_outcome : RunningState → ℕ × ReadyState
+abbrev pub ready_with : {L : Type 0} → RunningState L → List ℤ → ReadyState L
+ready_with s values =
+    record { lattice = s.lattice; levels = s.levels; values = values; program = s.program }
+
+abbrev pub end_outcome : {L : Type 0} → RunningState L → ℕ × ReadyState L
 end_outcome s =
-    cond (is_halted s.run.status) (1, ready_with s (values_of s.run.machine)) (0, ready_with s s.remembered)
+    if is_halted s.run.status
+    then (1, ready_with s (values_of s.run.machine))
+    else (0, ready_with s s.remembered)

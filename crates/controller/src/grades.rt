@@ -1,16 +1,13 @@
-ghost use Rattle.std.specs.Prelude.{◌≡◌, count_by, length};
+ghost use Rattle.std.specs.Prelude.{◌≡◌, count_by};
 
 use crate::VARIABLES;
 use lattice::Lattice;
 
-// A lattice, and the level of each variable. That the lattice stays is a clause of each call: no type says what a call
-// leaves as it was. That there are 32 levels is said, since after a call that changes the struct and is silent of it a
-// proof does not know it.
+// A lattice, and the level of each variable. That there are 32 levels of the lattice is an invariant of the states.
 #[derive(Drop)]
 pub(crate) struct Grades<L> {
     pub(crate) lattice: L,
     pub(crate) levels: [u16; VARIABLES],
-    ghost sized: { length levels ≡ 32 },
 }
 
 impl<L: Lattice> Grades<L> {

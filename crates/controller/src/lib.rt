@@ -11,14 +11,16 @@ mod ready;
 mod refusal;
 mod running;
 mod setup;
+mod sheet;
 mod variable;
 
-pub use answer::{Answer, Sheet};
+pub use answer::Answer;
 pub use call::Call;
 pub use ending::Ending;
 pub use list::{transcript, two_transcripts};
 pub use push::VARIABLES;
-pub use ready::{LINE, Ready, SHEET};
+pub use ready::Ready;
 pub use refusal::Refusal;
 pub use running::Running;
 pub use setup::Setup;
+pub use sheet::{LINE, SHEET, Sheet};

@@ -1,20 +1,21 @@
 ghost use Rattle.std.specs.Prelude.{◌≡◌, replicate, IfOk};
 ghost use Rattle.controller.specs.Sheet.{show_outcome};
 ghost use Rattle.controller.specs.Lists.{sheet_shown, setup_call, ready_call, running_call, outcome};
-ghost use Rattle.controller.specs.Of.{setup_state, ready_state, running_state, call_of, sheet_answer, state_of, lattice_of, outcome_of, KeepsLattice};
+ghost use Rattle.controller.specs.Of.{setup_of, ready_of, running_of, call_of, sheet_answer, state_of, outcome_of};
 
-use crate::answer::{Answer, Sheet};
+use crate::answer::Answer;
 use crate::call::Call;
-use crate::ready::{LINE, Ready, SHEET};
+use crate::ready::Ready;
 use crate::refusal::Refusal;
 use crate::running::Running;
 use crate::setup::Setup;
+use crate::sheet::{LINE, SHEET, Sheet};
 use lattice::Lattice;
 use std::alloc::{AllocError, Global};
 
 // A controller in whichever state it is.
 #[derive(Drop)]
-pub(crate) enum Phase<L> {
+pub(crate) enum Phase<L: Lattice> {
     Setup(Setup<L>),
     Ready(Ready<L>),
     Running(Running<L>),
@@ -25,8 +26,7 @@ type Step<L> = Option<(Phase<L>, Answer)>;
 
 // Performs a call in setup; none where setup does not allow it.
 fn call_in_setup<L: Lattice + Drop>(mut setup: Setup<L>, call: Call) -> Step<L>
-    ensures outcome { outcome_of result ≡ setup_call (L.Lattice.order setup.grades.lattice) (setup_state setup) (call_of call.entry) }
-    ensures same_lattice { KeepsLattice setup.grades.lattice result }
+    ensures { outcome_of L.Lattice.order result ≡ setup_call (setup_of L.Lattice.order setup) (call_of call.entry) }
 {
     match call {
         Call::Grade { variable, level } => {
@@ -40,8 +40,7 @@ fn call_in_setup<L: Lattice + Drop>(mut setup: Setup<L>, call: Call) -> Step<L>
 
 // Performs a call while a run is open; none where that does not allow it.
 fn call_while_running<L: Lattice + Drop>(mut running: Running<L>, call: Call) -> Step<L>
-    ensures outcome { outcome_of result ≡ running_call (running_state running) (call_of call.entry) }
-    ensures same_lattice { KeepsLattice running.grades.lattice result }
+    ensures { outcome_of L.Lattice.order result ≡ running_call (running_of L.Lattice.order running) (call_of call.entry) }
 {
     match call {
         Call::Advance(budget) => {
@@ -63,7 +62,7 @@ fn show_within<L: Lattice>(
     observer: u16,
     length: usize,
 ) -> Result<Result<Sheet, Refusal>, AllocError>
-    ensures { IfOk result (λ a. sheet_answer a ≡ sheet_shown (show_outcome (L.Lattice.order ready.now.grades.lattice) (ready_state ready.now) observer (replicate length 0))) }
+    ensures { IfOk result (λ a. sheet_answer a ≡ sheet_shown (show_outcome L.Lattice.order ready.now observer (replicate length 0))) }
 {
     let mut room = [0; SHEET];
     let buffer = &mut room[..length.min(SHEET)];
@@ -83,8 +82,7 @@ fn call_when_ready<L: Lattice + Drop>(
     mut ready: Ready<L>,
     call: Call,
 ) -> Result<Step<L>, AllocError>
-    ensures outcome { IfOk result (λ step. outcome_of step ≡ ready_call (L.Lattice.order ready.grades.lattice) (ready_state ready) (call_of call.entry)) }
-    ensures same_lattice { IfOk result (KeepsLattice ready.grades.lattice) }
+    ensures { IfOk result (λ step. outcome_of L.Lattice.order step ≡ ready_call (ready_of L.Lattice.order ready) (call_of call.entry)) }
 {
     let answer = match call {
         Call::Mount(job) => Answer::Mounted(ready.mount(job)),
@@ -103,8 +101,7 @@ fn call_when_ready<L: Lattice + Drop>(
 impl<L: Lattice + Drop> Phase<L> {
     // Performs a call; none where the state does not allow it.
     pub(crate) fn call(self, heap: Global, call: Call) -> Result<Step<L>, AllocError>
-        ensures outcome { IfOk result (λ step. outcome_of step ≡ outcome (L.Lattice.order (lattice_of self)) (state_of self) (call_of call.entry)) }
-        ensures same_lattice { IfOk result (KeepsLattice (lattice_of self)) }
+        ensures { IfOk result (λ step. outcome_of L.Lattice.order step ≡ outcome (state_of L.Lattice.order self) (call_of call.entry)) }
     {
         match self {
             Phase::Setup(setup) => Ok(call_in_setup(setup, call)),

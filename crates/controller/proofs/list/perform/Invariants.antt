@@ -1,10 +1,12 @@
 use Rattle.std.proofs.Common.{◌≡◌, ◌++◌, map, drop, vec_items}
-use Rattle.controller.specs.Lists.{transcript, transcript_from}
-use Rattle.controller.specs.Of.{call_of, answer_of, state_of, lattice_of}
+use Rattle.controller.specs.Lists.{transcript_from}
+use Rattle.controller.specs.Of.{call_of, answer_of, state_of}
 use Rattle.controller.proofs.list.perform.Given as goal
 
+-- The answers so far and those of the calls that are left are those of the whole list.
 abbrev pub invariant-loop-place : goal.invariant-loop-place
 invariant-loop-place g l =
-    let o = g.L.Lattice.order (lattice_of l.initial.phase) in
+    let order = g.L.Lattice.order in
     let calls = map call_of l.calls in
-    (map answer_of (vec_items l.answers) ++ transcript_from o l.place (state_of l.phase) (drop l.place calls) ≡ transcript o calls) × (lattice_of l.phase ≡ lattice_of l.initial.phase)
+    map answer_of (vec_items l.answers) ++ transcript_from l.place (state_of order l.phase) (drop l.place calls)
+    ≡ transcript_from 0 (state_of order l.initial.phase) calls
