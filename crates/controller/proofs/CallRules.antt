@@ -1,9 +1,9 @@
 -- The outcome of each call is what the rules say, and only that, and so is the transcript of a list. Assumes the laws of
 -- the order, since it goes by the states that a list can come to (Kept.antt), whose runs are halted exactly at the exit.
-use Rattle.std.proofs.Common.{◌≡◌, ◌≢◌, ℕ, ◌+◌, ◌*◌, ◌<◌, ◌≤◌, Bool, true, false, cond, eqb, ltb, List, [], ◌∷◌, ◌++◌, length, get_or, take, drop, set, replicate, ℤ, pos, sym, refl, ap, ◌∙◌, subst, ⊎_elim, arith}
+use Rattle.std.proofs.Common.{◌≡◌, ◌≢◌, ℕ, ◌+◌, ◌*◌, ◌<◌, ◌≤◌, Bool, true, false, cond, eqb, ltb, List, [], ◌∷◌, length, get_or, take, drop, set, replicate, pos, sym, refl, ap, ◌∙◌, subst, ⊎_elim, arith}
 use lib.ListN.{length-replicate}
 use Rattle.std.proofs.lemmas.List.{take_at}
-use Rattle.std.proofs.lemmas.Bool.{true≢false, false≢true, eqb-true, eqb-false, ne_eqb, ltb-true, ltb-false, lt-ltb, le-ltb}
+use Rattle.std.proofs.lemmas.Bool.{true≢false, false≢true, eqb-true, ne_eqb, ltb-true, ltb-false, lt-ltb, le-ltb}
 use Rattle.lattice.specs.Order.{Order, Laws}
 use Rattle.push.specs.declared.status.Status.{Status}
 use Rattle.push.specs.declared.status.Status.TheVariants.{Going, Halted, Faulted}
@@ -11,7 +11,7 @@ use Rattle.push.specs.Run.{RunState, is_halted, label_of, values_of, status_numb
 use Rattle.push.proofs.AdvanceFacts.{advance_runs, run_advances_to}
 use Rattle.job.specs.Layout.{opening}
 use Rattle.checker.specs.Verdict.{verdict, decoded_code}
-use Rattle.checker.specs.WellClaimed.{Mountable, FirstBroken}
+use Rattle.checker.specs.WellClaimed.{FirstBroken}
 use Rattle.checker.proofs.Judgement.{verdict_judged, judged}
 use Rattle.checker.proofs.OnlyFirst.{mountable_breaks_none, broken_is_the_verdict}
 use Rattle.controller.specs.State.{SetupState, ReadyState, RunningState, ready_with}
@@ -204,23 +204,23 @@ no_rule_disallowed (is_running s) end h = absurd (h refl)
 no_rule_disallowed (is_running s) c h = refl
 
 -- whole lists
-answers_are_the_transcript : {place : ℕ} {s : State} {calls : List Call} {answers : List Answer} →
-    AnswersFrom place s calls answers → transcript_from place s calls ≡ answers
+answers_are_the_transcript : {position : ℕ} {s : State} {calls : List Call} {answers : List Answer} →
+    AnswersFrom position s calls answers → transcript_from position s calls ≡ answers
 answers_are_the_transcript none = refl
-answers_are_the_transcript (made {place = place} {answer = answer} {calls = calls} leads rest) =
-    ap (rest_of place calls) (leads_outcome leads) ∙ ap (λ (xs : List Answer). answer ∷ xs) (answers_are_the_transcript rest)
-answers_are_the_transcript (stopped {place = place} {s = s} {call = call} {calls = calls} elsewhere) =
-    ap (rest_of place calls) (no_rule_disallowed s call elsewhere)
+answers_are_the_transcript (made {position = position} {answer = answer} {calls = calls} leads rest) =
+    ap (rest_of position calls) (leads_outcome leads) ∙ ap (λ (xs : List Answer). answer ∷ xs) (answers_are_the_transcript rest)
+answers_are_the_transcript (stopped {position = position} {s = s} {call = call} {calls = calls} elsewhere) =
+    ap (rest_of position calls) (no_rule_disallowed s call elsewhere)
 
 module _ (o : Order) (laws : Laws o) where
-  transcript_is_answers : (calls : List Call) (place : ℕ) {s : State} → Good o s → AnswersFrom place s calls (transcript_from place s calls)
-  transcript_is_answers [] place g = none
-  transcript_is_answers (c ∷ calls) place {s = s} g =
-      by (outcome s c) (call_ruled g c) (stays_good o laws g c) (λ next good. transcript_is_answers calls (place + 1) good)
+  transcript_is_answers : (calls : List Call) (position : ℕ) {s : State} → Good o s → AnswersFrom position s calls (transcript_from position s calls)
+  transcript_is_answers [] position g = none
+  transcript_is_answers (c ∷ calls) position {s = s} g =
+      by (outcome s c) (call_ruled g c) (stays_good o laws g c) (λ next good. transcript_is_answers calls (position + 1) good)
     where
       by : (out : Outcome) → ByRule s c out → GoodOutcome o out →
-          ((next : State) → Good o next → AnswersFrom (place + 1) next calls (transcript_from (place + 1) next calls)) →
-          AnswersFrom place s (c ∷ calls) (rest_of place calls out)
+          ((next : State) → Good o next → AnswersFrom (position + 1) next calls (transcript_from (position + 1) next calls)) →
+          AnswersFrom position s (c ∷ calls) (rest_of position calls out)
       by (allowed answer t) leads (good_allowed harmless good) rest = made leads (rest t good)
       by disallowed elsewhere g rest = stopped elsewhere
 

@@ -1,10 +1,10 @@
 -- What every state that a list of calls can come to keeps, so that no advance answers 2. Assumes the laws of the
 -- order.
-use Rattle.std.proofs.Common.{◌≡◌, ℕ, ◌+◌, ◌<◌, Bool, true, false, cond, eqb, ltb, ◌⊎◌, List, [], ◌∷◌, length, get_or, set, ℤ, pos, sym, refl, ap, ◌∙◌, subst, inl, inr, ⊎_elim, arith}
+use Rattle.std.proofs.Common.{◌≡◌, ℕ, ◌+◌, Bool, true, false, cond, eqb, ltb, List, [], ◌∷◌, length, get_or, set, ℤ, pos, sym, refl, ap, ◌∙◌, subst, inl, ⊎_elim, arith}
 use lib.ListN.{length-replicate}
 use Rattle.std.proofs.lemmas.List.{length-set}
 use Rattle.std.proofs.lemmas.List.Sums.{sum_by-cons}
-use Rattle.std.proofs.lemmas.Bool.{cases_lt, true≢false, eqb-true, eqb-false, ltb-true, eq-eqb}
+use Rattle.std.proofs.lemmas.Bool.{cases_lt, true≢false, eqb-true, ltb-true, eq-eqb}
 use Rattle.lattice.specs.Order.{Order, Laws}
 use Rattle.push.specs.declared.instruction.Instruction.{Instruction}
 use Rattle.push.specs.declared.status.Status.{Status}
@@ -18,18 +18,13 @@ use Rattle.job.specs.Layout.{opening}
 use Rattle.checker.specs.Verdict.{verdict, decoded_code}
 use Rattle.checker.proofs.Judgement.{verdict_judged}
 use Rattle.checker.proofs.Typing.{rule_within}
-use Rattle.checker.specs.Flow.{NeverFaults, KeepsClosed, LevelsOfVariables}
+use Rattle.checker.specs.Flow.{NeverFaults, KeepsClosed}
 use Rattle.checker.proofs.Safety.{accepted_jobs_never_fault, accepted_jobs_keep_closed}
-use Rattle.controller.specs.State.{SetupState, ReadyState, RunningState, Graded, ready_with}
+use Rattle.controller.specs.State.{SetupState, ReadyState, RunningState, Graded, Safe, ready_with}
 use Rattle.controller.specs.Lists as lists
 use Rattle.controller.specs.Lists.{Call, grade, seal, mount, read, show, start, advance, end, unseal, Answer, graded, mounted, was_set, ended, State, in_setup, is_ready, is_running, Outcome, allowed, disallowed, setup_call, ready_call, running_call, outcome, after_call, transcript_from, new_controller, transcript}
 use Rattle.controller.specs.Counts.{fault_in, stack_faults}
 use Rattle.controller.proofs.LevelFacts.{highest_graded, regraded}
-
--- A program that can be run over some levels.
-pub record Safe (o : Order) (levels : List ℕ) (program : List Instruction) : Type 0 where
-  never_faults : NeverFaults program
-  pub keeps_closed : KeepsClosed o levels program
 
 -- A run that came by the machine's steps from some values.
 pub record UnderWay (code : List Instruction) (values : List ℤ) (r : RunState) : Type 0 where
@@ -113,6 +108,12 @@ accepted_is_safe o laws levels bytes g z =
           ⊎_elim (λ some. accepted_jobs_keep_closed o levels bytes laws is (g.are_levels some))
           (λ none. none_open o laws levels (decoded_code bytes (opening bytes)) (omega arith)) (cases_lt 0 o.span);
     }
+
+pub mounted_is_safe :
+    (o : Order) (levels bytes : List ℕ) (program : List Instruction) → Laws o → Graded o levels → verdict o levels bytes ≡ (0, 0) →
+    program ≡ decoded_code bytes (opening bytes) → Safe o levels program
+mounted_is_safe o levels bytes program laws g is same =
+    subst (Safe o levels) (sym same) (accepted_is_safe o laws levels bytes g (ap (λ v. v.0) is))
 
 -- The empty program is safe.
 nothing_runs : {m n : Machine} → [] ⊢ m ⟶ n → ⊥
@@ -219,15 +220,15 @@ module _ (o : Order) (laws : Laws o) where
   stays_good (good_running {levels = levels} {remembered = remembered} {program = program} {r = r} g safe long way) c =
       running_good levels remembered program g safe long r way c
 
-  no_faults_from : (place : ℕ) (s : State) (calls : List Call) → Good o s → stack_faults (transcript_from place s calls) ≡ 0
-  no_faults_from place s [] g = refl
-  no_faults_from place s (c ∷ calls) g =
-      by (outcome s c) (stays_good g c) (λ next good. no_faults_from (place + 1) next calls good)
+  no_faults_from : (position : ℕ) (s : State) (calls : List Call) → Good o s → stack_faults (transcript_from position s calls) ≡ 0
+  no_faults_from position s [] g = refl
+  no_faults_from position s (c ∷ calls) g =
+      by (outcome s c) (stays_good g c) (λ next good. no_faults_from (position + 1) next calls good)
     where
       left : State → List Answer
-      left next = transcript_from (place + 1) next calls
+      left next = transcript_from (position + 1) next calls
 
-      by : (out : Outcome) → GoodOutcome o out → ((next : State) → Good o next → stack_faults (left next) ≡ 0) → stack_faults (after_call place out left) ≡ 0
+      by : (out : Outcome) → GoodOutcome o out → ((next : State) → Good o next → stack_faults (left next) ≡ 0) → stack_faults (after_call position out left) ≡ 0
       by disallowed good_disallowed rest = refl
       by (allowed answer next) (good_allowed none good) rest = omega (arith, sum_by-cons fault_in answer (left next), none, rest next good)
 

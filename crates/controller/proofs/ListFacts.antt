@@ -13,23 +13,23 @@ use Rattle.controller.specs.Lists.{Call, Answer, State, Outcome, allowed, disall
 
 -- The answers from a call's outcome on.
 abbrev pub rest_of : ℕ → List Call → Outcome → List Answer
-rest_of place calls out = after_call place out (λ next. transcript_from (place + 1) next calls)
+rest_of position calls out = after_call position out (λ next. transcript_from (position + 1) next calls)
 
-module _ (place : ℕ) (s : State) (calls : List Call) (done total : List Answer) (so_far : done ++ transcript_from place s (drop place calls) ≡ total) where
-  module _ (d : Call) (some : place < length calls) where
-    next_is : (out : Outcome) → outcome s (get_or calls place d) ≡ out → transcript_from place s (drop place calls) ≡ rest_of place (drop (place + 1) calls) out
-    next_is out e = ap (transcript_from place s) (drop_more calls place d some) ∙ ap (rest_of place (drop (place + 1) calls)) e
+module _ (position : ℕ) (s : State) (calls : List Call) (done total : List Answer) (so_far : done ++ transcript_from position s (drop position calls) ≡ total) where
+  module _ (d : Call) (some : position < length calls) where
+    next_is : (out : Outcome) → outcome s (get_or calls position d) ≡ out → transcript_from position s (drop position calls) ≡ rest_of position (drop (position + 1) calls) out
+    next_is out e = ap (transcript_from position s) (drop_more calls position d some) ∙ ap (rest_of position (drop (position + 1) calls)) e
 
-    one_answered : (answer : Answer) (next : State) → allowed answer next ≡ outcome s (get_or calls place d) →
-        (done ++ (answer ∷ [])) ++ transcript_from (place + 1) next (drop (place + 1) calls) ≡ total
+    one_answered : (answer : Answer) (next : State) → allowed answer next ≡ outcome s (get_or calls position d) →
+        (done ++ (answer ∷ [])) ++ transcript_from (position + 1) next (drop (position + 1) calls) ≡ total
     one_answered answer next e =
         append_assoc done (answer ∷ []) _ ∙ sym (ap (λ rest. done ++ rest) (next_is (allowed answer next) (sym e))) ∙ so_far
 
-    one_disallowed : disallowed ≡ outcome s (get_or calls place d) → done ++ (not_allowed place ∷ []) ≡ total
+    one_disallowed : disallowed ≡ outcome s (get_or calls position d) → done ++ (not_allowed position ∷ []) ≡ total
     one_disallowed e = sym (ap (λ rest. done ++ rest) (next_is disallowed (sym e))) ∙ so_far
 
-  all_answered : length calls ≤ place → done ≡ total
-  all_answered h = sym (append-nil done) ∙ ap (λ rest. done ++ rest) (ap (transcript_from place s) (sym (drop_all place calls h))) ∙ so_far
+  all_answered : length calls ≤ position → done ≡ total
+  all_answered h = sym (append-nil done) ∙ ap (λ rest. done ++ rest) (ap (transcript_from position s) (sym (drop_all position calls h))) ∙ so_far
 
 -- The same of the code's calls, answers and states.
 module _ {L : Type 0} (order : L → Order) (calls : List code.Call) (n : ℕ) (before : Phase L) (answers : List code_answer.Answer) (total : List Answer) (so_far : map answer_of answers ++ transcript_from n (state_of order before) (drop n (map call_of calls)) ≡ total) where

@@ -10,16 +10,16 @@ use Rattle.push.specs.Machine.{Machine, at}
 use Rattle.push.specs.Run.{RunState, Steps, is_halted, label_of, values_of}
 use Rattle.job.specs.Layout.{opening}
 use Rattle.checker.specs.Verdict.{verdict, decoded_code}
-use Rattle.checker.specs.Flow.{SameWhenOpen, KeepsClosed}
+use Rattle.checker.specs.Flow.{SameWhenOpen}
 use Rattle.checker.proofs.OpenFacts.{same_here, written}
-use Rattle.controller.specs.State.{SetupState, ReadyState, RunningState}
+use Rattle.controller.specs.State.{SetupState, ReadyState, RunningState, Safe}
 use Rattle.controller.specs.Sheet.{line, lines_below, open_count, shown_over}
 use Rattle.controller.specs.Lists as lists
 use Rattle.controller.specs.Lists.{Call, grade, seal, mount, read, show, start, advance, end, unseal, Answer, not_allowed, State, in_setup, is_ready, is_running, Outcome, allowed, disallowed, setup_call, ready_call, running_call, outcome, sheet_shown, after_call, transcript_from, transcript}
 use Rattle.controller.specs.Counts as counts
 use Rattle.controller.specs.Counts.{shows_to, sheet_in, sheets, show_answers, differing, differing_bytes, end_in, ends, state_after, Alike, ClosedValuesStayClosed}
 use Rattle.controller.proofs.ListFacts.{rest_of}
-use Rattle.controller.proofs.Kept.{Good, run_of, UnderWay, Safe, GoodOutcome, good_allowed, stays_good, new_is_good}
+use Rattle.controller.proofs.Kept.{Good, run_of, UnderWay, GoodOutcome, good_allowed, stays_good, new_is_good}
 
 -- What an observer sees of two states that agree on what is open to it is the same sheet.
 module _ (o : Order) (w : ℕ) (levels : List ℕ) (vs ws : List ℤ) (alike : SameWhenOpen o levels w vs ws) where
@@ -206,20 +206,20 @@ module _ (o : Order) (laws : Laws o) (w : ℕ) where
     sym (drop_at xs us (length xs) refl) ∙ ap (drop (length xs)) e ∙ drop_at ys vs (length xs) (sym h),
   )
 
-  module _ (place : ℕ) (s : State) (c d : Call) (calls others : List Call) (same_show : shows_to w c ≡ shows_to w d) where
+  module _ (position : ℕ) (s : State) (c d : Call) (calls others : List Call) (same_show : shows_to w c ≡ shows_to w d) where
     abbrev ToSee : State → State → Type 0
     ToSee s t =
-        ends (transcript_from (place + 1) s calls) ≡ ends (transcript_from (place + 1) t others) →
-        SeenAlike calls others (transcript_from (place + 1) s calls) (transcript_from (place + 1) t others)
+        ends (transcript_from (position + 1) s calls) ≡ ends (transcript_from (position + 1) t others) →
+        SeenAlike calls others (transcript_from (position + 1) s calls) (transcript_from (position + 1) t others)
 
     turn : (left right : Outcome) → Paired c left right → GoodOutcome o left → GoodOutcome o right →
         ((t : State) → Related (state_after s left) t → Good o (state_after s left) → Good o t → ToSee (state_after s left) t) →
-        ends (rest_of place calls left) ≡ ends (rest_of place others right) →
-        SeenAlike (c ∷ calls) (d ∷ others) (rest_of place calls left) (rest_of place others right)
+        ends (rest_of position calls left) ≡ ends (rest_of position others right) →
+        SeenAlike (c ∷ calls) (d ∷ others) (rest_of position calls left) (rest_of position others right)
     turn disallowed disallowed both_disallowed g h rest e =
         record {
           same_sheets = ap₂ (λ (x : Bool) (xs : List (List ℕ)). cond x [] [] ∷ xs) same_show (ap (map _) (none_made calls ∙ sym (none_made others)));
-          same_answers = ap₂ (λ (x : Bool) (xs : List Answer). cond x (not_allowed place ∷ []) [] ++ xs) same_show (ap (flat_map _) (none_made calls ∙ sym (none_made others)));
+          same_answers = ap₂ (λ (x : Bool) (xs : List Answer). cond x (not_allowed position ∷ []) [] ++ xs) same_show (ap (flat_map _) (none_made calls ∙ sym (none_made others)));
         }
     turn (allowed a next) disallowed p g h rest e = elim p [ ]
     turn disallowed (allowed b other) p g h rest e = elim p [ ]
@@ -243,23 +243,23 @@ module _ (o : Order) (laws : Laws o) (w : ℕ) where
         answer_here true false e h = absurd (true≢false e)
         answer_here false true e h = absurd (false≢true e)
 
-  seen_alike : {s t : State} {calls others : List Call} → Alike w s calls others → Related s t → Good o s → Good o t → (place : ℕ) →
-      ends (transcript_from place s calls) ≡ ends (transcript_from place t others) →
-      SeenAlike calls others (transcript_from place s calls) (transcript_from place t others)
-  seen_alike counts.none related g h place e = record { same_sheets = refl; same_answers = refl }
-  seen_alike {s = s} {t = t} (counts.same {call = c} {calls = calls} {others = others} rest) related g h place e =
-      turn place s c c calls others refl (outcome s c) (outcome t c) (call_paired related g h c) (stays_good o laws g c) (stays_good o laws h c)
-      (λ next r g' h' e'. seen_alike rest r g' h' (place + 1) e') e
-  seen_alike {s = s} {t = t} (counts.budgets {a = a} {b = b} {calls = calls} {others = others} rest) related g h place e =
+  seen_alike : {s t : State} {calls others : List Call} → Alike w s calls others → Related s t → Good o s → Good o t → (position : ℕ) →
+      ends (transcript_from position s calls) ≡ ends (transcript_from position t others) →
+      SeenAlike calls others (transcript_from position s calls) (transcript_from position t others)
+  seen_alike counts.none related g h position e = record { same_sheets = refl; same_answers = refl }
+  seen_alike {s = s} {t = t} (counts.same {call = c} {calls = calls} {others = others} rest) related g h position e =
+      turn position s c c calls others refl (outcome s c) (outcome t c) (call_paired related g h c) (stays_good o laws g c) (stays_good o laws h c)
+      (λ next r g' h' e'. seen_alike rest r g' h' (position + 1) e') e
+  seen_alike {s = s} {t = t} (counts.budgets {a = a} {b = b} {calls = calls} {others = others} rest) related g h position e =
       let c : Call = advance a in
       let d : Call = advance b in
-      turn place s c d calls others refl (outcome s c) (outcome t d) (budgets_paired related a b) (stays_good o laws g c) (stays_good o laws h d)
-      (λ next r g' h' e'. seen_alike rest r g' h' (place + 1) e') e
-  seen_alike {s = s} {t = t} (counts.closed {v = v} {x = x} {y = y} {calls = calls} {others = others} small high rest) related g h place e =
+      turn position s c d calls others refl (outcome s c) (outcome t d) (budgets_paired related a b) (stays_good o laws g c) (stays_good o laws h d)
+      (λ next r g' h' e'. seen_alike rest r g' h' (position + 1) e') e
+  seen_alike {s = s} {t = t} (counts.closed {v = v} {x = x} {y = y} {calls = calls} {others = others} small high rest) related g h position e =
       let c : Call = lists.set v x in
       let d : Call = lists.set v y in
-      turn place s c d calls others refl (outcome s c) (outcome t d) (closed_paired related v x y high) (stays_good o laws g c) (stays_good o laws h d)
-      (λ next r g' h' e'. seen_alike rest r g' h' (place + 1) e') e
+      turn position s c d calls others refl (outcome s c) (outcome t d) (closed_paired related v x y high) (stays_good o laws g c) (stays_good o laws h d)
+      (λ next r g' h' e'. seen_alike rest r g' h' (position + 1) e') e
 
 none_differ : (xs : List ℕ) → differing xs xs ≡ 0
 none_differ [] = refl

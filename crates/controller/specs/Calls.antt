@@ -12,7 +12,7 @@ use Rattle.controller.specs.declared.ending.Ending.TheVariants.{Unfinished, Halt
 use Rattle.controller.specs.Answers.{refusal_number, ending_number}
 use Rattle.controller.specs.State.{SetupState, ReadyState, RunningState}
 use Rattle.controller.specs.Sheet.{open_count, sheet}
-use Rattle.controller.specs.Lists.{Call, grade, seal, mount, set, read, show, start, advance, end, unseal, Answer, graded, sealed, mounted, was_set, was_read, shown, started, advanced, ended, unsealed, not_allowed, State, in_setup, is_ready, is_running, Outcome, allowed, disallowed, outcome, new_controller, transcript}
+use Rattle.controller.specs.Lists.{Call, grade, seal, mount, set, read, show, start, advance, end, unseal, Answer, graded, sealed, mounted, was_set, was_read, shown, started, advanced, ended, unsealed, not_allowed, State, in_setup, is_ready, is_running, allowed, disallowed, outcome, new_controller, transcript}
 
 -- The names of the states, and the one state that each call belongs to.
 pub data StateName : Type 0 where
@@ -48,7 +48,10 @@ pub data LeadsTo : State → Call → Answer → State → Type 0 where
       {s : SetupState Order} →
       LeadsTo (in_setup s) seal sealed
       (is_ready (record {
-        lattice = s.lattice; levels = s.levels; values = replicate 32 (pos 0); program = []
+        lattice = s.lattice;
+        levels = s.levels;
+        values = replicate 32 (pos 0);
+        program = [];
       }))
   mount_accepted :
       {s : ReadyState Order} {bytes : List ℕ} → Mountable s.lattice s.levels bytes →
@@ -83,7 +86,11 @@ pub data LeadsTo : State → Call → Answer → State → Type 0 where
       {s : ReadyState Order} →
       LeadsTo (is_ready s) start started
       (is_running (record {
-        lattice = s.lattice; levels = s.levels; remembered = s.values; program = s.program; run = begun s.program s.values
+        lattice = s.lattice;
+        levels = s.levels;
+        remembered = s.values;
+        program = s.program;
+        run = begun s.program s.values;
       }))
   unseal_accepted :
       {s : ReadyState Order} → LeadsTo (is_ready s) unseal unsealed (in_setup (record { lattice = s.lattice; levels = s.levels }))
@@ -95,26 +102,32 @@ pub data LeadsTo : State → Call → Answer → State → Type 0 where
       {s : RunningState Order} → s.run.status ≡ status.Halted →
       LeadsTo (is_running s) end (ended (ending_number Halted))
       (is_ready (record {
-        lattice = s.lattice; levels = s.levels; values = values_of s.run.machine; program = s.program
+        lattice = s.lattice;
+        levels = s.levels;
+        values = values_of s.run.machine;
+        program = s.program;
       }))
   end_unfinished :
       {s : RunningState Order} → s.run.status ≢ status.Halted →
       LeadsTo (is_running s) end (ended (ending_number Unfinished))
       (is_ready (record {
-        lattice = s.lattice; levels = s.levels; values = s.remembered; program = s.program
+        lattice = s.lattice;
+        levels = s.levels;
+        values = s.remembered;
+        program = s.program;
       }))
 
--- The answers of a list from a place and a state on: each call's own, and then those of the calls that are left, on the
--- state that it leads to. A call in a state that it does not belong to is answered so, with its place, and ends the list.
+-- The answers of a list from a position and a state on: each call's own, and then those of the calls that are left, on the
+-- state that it leads to. A call in a state that it does not belong to is answered so, with its position, and ends the list.
 pub data AnswersFrom : ℕ → State → List Call → List Answer → Type 0 where
-  none : {place : ℕ} {s : State} → AnswersFrom place s [] []
+  none : {position : ℕ} {s : State} → AnswersFrom position s [] []
   made :
-      {place : ℕ} {s t : State} {call : Call} {answer : Answer} {calls : List Call} {answers : List Answer} →
-      LeadsTo s call answer t → AnswersFrom (place + 1) t calls answers →
-      AnswersFrom place s (call ∷ calls) (answer ∷ answers)
+      {position : ℕ} {s t : State} {call : Call} {answer : Answer} {calls : List Call} {answers : List Answer} →
+      LeadsTo s call answer t → AnswersFrom (position + 1) t calls answers →
+      AnswersFrom position s (call ∷ calls) (answer ∷ answers)
   stopped :
-      {place : ℕ} {s : State} {call : Call} {calls : List Call} → name_of s ≢ belongs_to call →
-      AnswersFrom place s (call ∷ calls) (not_allowed place ∷ [])
+      {position : ℕ} {s : State} {call : Call} {calls : List Call} → name_of s ≢ belongs_to call →
+      AnswersFrom position s (call ∷ calls) (not_allowed position ∷ [])
 
 -- The answers of a list on a new controller.
 abbrev pub AnswersOf : Order → List Call → List Answer → Type 0

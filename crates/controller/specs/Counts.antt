@@ -23,7 +23,7 @@ abbrev pub sheet_in : Answer → List ℕ
 sheet_in (shown _ bytes) = bytes
 sheet_in _ = []
 
--- The sheets of the shows for an observer, each at its place in the list; all other places hold no bytes.
+-- The sheets of the shows for an observer, each at its position in the list; all other positions hold no bytes.
 abbrev pub sheets : ℕ → List Call → List Answer → List (List ℕ)
 sheets observer calls answers =
     map (λ made. if shows_to observer made.0 then sheet_in made.1 else []) (zip calls answers)
@@ -33,7 +33,7 @@ abbrev pub show_answers : ℕ → List Call → List Answer → List Answer
 show_answers observer calls answers =
     flat_map (λ made. if shows_to observer made.0 then made.1 ∷ [] else []) (zip calls answers)
 
--- Differing bytes: places where two sheets hold unequal bytes or only one holds any.
+-- Differing bytes: positions where two sheets hold unequal bytes or only one holds any.
 abbrev pub differing : List ℕ → List ℕ → ℕ
 differing [] ys = length ys
 differing (x ∷ xs) [] = 1 + length xs

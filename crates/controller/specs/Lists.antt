@@ -17,7 +17,7 @@ pub data Call : Type 0 where
   end : Call
   unseal : Call
 
--- What a call answers: numbers, and for a show its bytes as well; or that its state does not allow it, and its place.
+-- What a call answers: numbers, and for a show its bytes as well; or that its state does not allow it, and its position.
 pub data Answer : Type 0 where
   graded : ℕ → Answer
   sealed : Answer
@@ -86,14 +86,14 @@ outcome (is_running s) = running_call s
 
 -- The answers from a call on; one that the state does not allow ends the list.
 abbrev pub after_call : ℕ → Outcome → (State → List Answer) → List Answer
-after_call place (allowed answer s) rest = answer ∷ rest s
-after_call place disallowed rest = not_allowed place ∷ []
+after_call position (allowed answer s) rest = answer ∷ rest s
+after_call position disallowed rest = not_allowed position ∷ []
 
--- The answers of a list in order, from a place in it and a state.
+-- The answers of a list in order, from a position in it and a state.
 abbrev pub transcript_from : ℕ → State → List Call → List Answer
-transcript_from place s [] = []
-transcript_from place s (call ∷ calls) =
-    after_call place (outcome s call) (λ next. transcript_from (place + 1) next calls)
+transcript_from position s [] = []
+transcript_from position s (call ∷ calls) =
+    after_call position (outcome s call) (λ next. transcript_from (position + 1) next calls)
 
 -- On a new controller.
 abbrev pub new_controller : Order → State

@@ -45,7 +45,7 @@ answer_of Started = plain.started
 answer_of (Advanced status steps) = plain.advanced (advance_answer (status, steps))
 answer_of (Ended ending) = plain.ended (ending_number ending)
 answer_of Unsealed = plain.unsealed
-answer_of (NotAllowed place) = plain.not_allowed place
+answer_of (NotAllowed position) = plain.not_allowed position
 
 -- Some answers are the transcript of a list.
 abbrev pub Transcribes : Order → List Call → List Answer → Type 0

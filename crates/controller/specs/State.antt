@@ -5,7 +5,7 @@ use Rattle.push.specs.declared.instruction.Instruction.{Instruction}
 use Rattle.push.specs.Run.{RunState, begun, run, status_number, is_halted, values_of}
 use Rattle.job.specs.Layout.{opening}
 use Rattle.checker.specs.Verdict.{verdict, decoded_code}
-use Rattle.checker.specs.Flow.{LevelsOfVariables}
+use Rattle.checker.specs.Flow.{NeverFaults, KeepsClosed, LevelsOfVariables}
 
 -- In setup: the lattice, and each variable's level.
 pub record SetupState (L : Type 0) : Type 0 where
@@ -32,6 +32,11 @@ pub record Graded (o : Order) (levels : List ℕ) : Type 0 where
   pub sized : length levels ≡ 32
   pub are_levels : 0 < o.span → LevelsOfVariables o levels
 
+-- A program that can be run over some levels.
+pub record Safe (o : Order) (levels : List ℕ) (program : List Instruction) : Type 0 where
+  pub never_faults : NeverFaults program
+  pub keeps_closed : KeepsClosed o levels program
+
 -- In what follows `order` gives the order of a lattice. A new controller has every variable at the highest level.
 abbrev pub new_state : {L : Type 0} → (L → Order) → L → SetupState L
 new_state order lattice = record { lattice = lattice; levels = replicate 32 (order lattice).highest }
@@ -40,8 +45,8 @@ abbrev pub grade_outcome : {L : Type 0} → (L → Order) → SetupState L → �
 grade_outcome order s variable level =
     if nat_lt variable 32
     then if nat_lt level (order s.lattice).span
-      then (0, record s { levels = slice_set s.levels variable level })
-      else (2, s)
+    then (0, record s { levels = slice_set s.levels variable level })
+    else (2, s)
     else (1, s)
 
 abbrev pub sealed_state : {L : Type 0} → SetupState L → ReadyState L

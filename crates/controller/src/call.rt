@@ -1,15 +1,39 @@
-// A call on a controller, with its arguments.
+/// A call on a controller, with its arguments.
 #[derive(Clone, Copy, Debug, PartialEq, Eq)]
 pub enum Call<'a> {
-    Grade { variable: u8, level: u16 },
+    /// `Setup::grade`: a level for a variable.
+    Grade {
+        /// The variable's number, 0 to 31 where there is one.
+        variable: u8,
+        /// The level's code.
+        level: u16,
+    },
+    /// `Setup::seal`.
     Seal,
+    /// `Ready::mount`, with a job's bytes.
     Mount(&'a [u8]),
-    Set { variable: u8, value: i32 },
+    /// `Ready::set`: a value for a variable.
+    Set {
+        /// The variable's number, 0 to 31 where there is one.
+        variable: u8,
+        /// The value.
+        value: i32,
+    },
+    /// `Ready::read`, with a variable's number.
     Read(u8),
-    // A sheet for an observer, into a buffer of so many bytes.
-    Show { observer: u16, length: usize },
+    /// `Ready::show`: an observer's sheet.
+    Show {
+        /// The code of the observer's level.
+        observer: u16,
+        /// How many bytes the buffer has.
+        length: usize,
+    },
+    /// `Ready::start`.
     Start,
+    /// `Running::advance`, with a budget in steps.
     Advance(u32),
+    /// `Running::end`.
     End,
+    /// `Ready::unseal`.
     Unseal,
 }

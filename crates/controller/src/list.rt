@@ -1,5 +1,4 @@
 ghost use Rattle.std.specs.Prelude.{◌≡◌, ℕ, map, IfOk};
-ghost use Rattle.controller.specs.Lists.{transcript as transcript_of};
 ghost use Rattle.controller.specs.Calls.{AnswersOf, TranscriptFollowsTheRules};
 ghost use Rattle.controller.specs.Counts.{stack_faults, NoStackFaults, ShownTheSame, ClosedValuesStayClosed};
 ghost use Rattle.controller.specs.Of.{call_of, answer_of, Transcribes};
@@ -17,13 +16,13 @@ fn perform<L: Lattice + Drop>(
     lattice: L,
     calls: &[Call],
 ) -> Result<Vec<Answer>, AllocError>
-    ensures { IfOk result (λ answers. map answer_of answers.items ≡ transcript_of (L.Lattice.order lattice) (map call_of calls.now)) }
+    ensures { IfOk result (λ answers. Transcribes (L.Lattice.order lattice) calls.now answers.items) }
 {
     let mut phase = Phase::Setup(Setup::new(lattice));
     let mut answers = Vec::new(heap);
-    for (place, call) in calls.iter().enumerate() {
+    for (position, call) in calls.iter().enumerate() {
         let Some((next, answer)) = phase.call(heap, *call)? else {
-            answers.push(Answer::NotAllowed(place))?;
+            answers.push(Answer::NotAllowed(position))?;
             return Ok(answers);
         };
         phase = next;
@@ -39,8 +38,9 @@ pub fn transcript<L: Lattice + Drop>(
     lattice: L,
     calls: &[Call],
 ) -> Result<Vec<Answer>, AllocError>
-    ensures transcript { IfOk result (λ answers. map answer_of answers.items ≡ transcript_of (L.Lattice.order lattice) (map call_of calls.now)) }
-    ensures answers_by_the_rules { IfOk result (λ answers.
+    ensures answers_are_the_transcript { IfOk result (λ answers.
+        Transcribes (L.Lattice.order lattice) calls.now answers.items) }
+    ensures answers_are_by_the_rules { IfOk result (λ answers.
         AnswersOf (L.Lattice.order lattice) (map call_of calls.now) (map answer_of answers.items)) }
     ensures transcript_follows_the_rules { TranscriptFollowsTheRules (L.Lattice.order lattice) }
     ensures no_stack_faults { NoStackFaults (L.Lattice.order lattice) }
@@ -73,10 +73,10 @@ pub fn two_transcripts<L: Lattice>(
     calls: &[Call],
     others: &[Call],
 ) -> Result<(Vec<Answer>, Vec<Answer>), AllocError>
-    ensures transcripts { IfOk result (λ both.
+    ensures answers_are_the_transcripts { IfOk result (λ both.
         Transcribes (L.Lattice.order lattice.now) calls.now both.0.items
         × Transcribes (L.Lattice.order lattice.now) others.now both.1.items) }
-    ensures answers_by_the_rules { IfOk result (λ both.
+    ensures answers_are_by_the_rules { IfOk result (λ both.
         AnswersOf (L.Lattice.order lattice.now) (map call_of calls.now)
         (map answer_of both.0.items)
         × AnswersOf (L.Lattice.order lattice.now) (map call_of others.now)

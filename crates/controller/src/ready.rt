@@ -1,7 +1,7 @@
-ghost use Rattle.std.specs.Prelude.{◌≡◌, ◌*◌, ◌≤◌, length};
+ghost use Rattle.std.specs.Prelude.{◌≡◌, ◌*◌, ◌≤◌, length, IfOk, IfErr};
 ghost use Rattle.checker.specs.Faults.{mount_answer};
 ghost use Rattle.controller.specs.Answers.{done_answer, read_answer, shown_answer};
-ghost use Rattle.controller.specs.State.{set_outcome, read_outcome, mount_outcome, unsealed_state, started_state};
+ghost use Rattle.controller.specs.State.{Safe, set_outcome, read_outcome, mount_outcome, unsealed_state, started_state};
 ghost use Rattle.controller.specs.Sheet.{open_count, sheet_before, show_outcome};
 
 use crate::VARIABLES;
@@ -30,15 +30,25 @@ impl<L: Lattice> Model for Ready<L> {
 
     ghost Value = { ReadyState L };
 
-    ghost view = { λ s. record { lattice = s.grades.lattice; levels = s.grades.levels; values = s.values; program = s.program } };
+    ghost view = { λ s. record {
+      lattice = s.grades.lattice;
+      levels = s.grades.levels;
+      values = s.values;
+      program = s.program;
+    } };
 
-    ghost invariant = { λ s. Graded (L.Lattice.order s.grades.lattice) s.grades.levels × (length s.values ≡ 32) };
+    ghost invariant = { λ s. Graded (L.Lattice.order s.grades.lattice) s.grades.levels
+        × (length s.values ≡ 32) };
 }
 
 impl<L: Lattice> Ready<L> {
     /// Takes a job: an accepted one replaces the mounted program.
     pub fn mount(&mut self, bytes: &[u8]) -> Result<(), MountFault>
-        ensures mounts_or_refuses { (mount_answer result, self.new) ≡ mount_outcome L.Lattice.order self.old bytes.now }
+        ensures mounts_or_refuses { (mount_answer result, self.new)
+            ≡ mount_outcome L.Lattice.order self.old bytes.now }
+        ensures refused_changes_nothing { IfErr result (λ _. self.new ≡ self.old) }
+        ensures accepted_is_safe { IfOk result (λ _.
+            Safe (L.Lattice.order self.new.lattice) self.new.levels self.new.program) }
     {
         let grades = &self.grades;
         self.program = check(&grades.lattice, &grades.levels, bytes)?;
@@ -48,6 +58,7 @@ impl<L: Lattice> Ready<L> {
     /// Writes the value of the variable of a number, 0 to 31.
     pub fn set(&mut self, variable: u8, value: i32) -> Result<(), Refusal>
         ensures sets_or_refuses { (done_answer result, self.new) ≡ set_outcome self.old variable value }
+        ensures refused_changes_nothing { IfErr result (λ _. self.new ≡ self.old) }
     {
         let index = index_of(variable)?;
         // Not through `get_mut`: of what is written through it a proof knows the length alone.
@@ -68,7 +79,9 @@ impl<L: Lattice> Ready<L> {
     /// Writes an observer's sheet to the front of the buffer, and answers how many variables it holds.
     #[tactic(auto, using(crate::proofs::SheetFacts::open_counted))]
     pub fn show(&self, observer: u16, buffer: &mut [u8]) -> Result<usize, Refusal>
-        ensures shows_or_refuses { (shown_answer result, buffer.new) ≡ show_outcome L.Lattice.order self.now observer buffer.old }
+        ensures shows_or_refuses { (shown_answer result, buffer.new)
+            ≡ show_outcome L.Lattice.order self.now observer buffer.old }
+        ensures refused_changes_nothing { IfErr result (λ _. buffer.new ≡ buffer.old) }
     {
         if !self.grades.lattice.is_level(observer) {
             return Err(Refusal::NoLevel);
@@ -84,8 +97,10 @@ impl<L: Lattice> Ready<L> {
     // Writes the lines of the open variables, in rising order, to the front of the buffer.
     #[tactic(auto, using(crate::proofs::SheetFacts::room, crate::proofs::SheetFacts::open_none, crate::proofs::SheetFacts::lines_none))]
     fn write_open(&self, observer: u16, buffer: &mut [u8])
-        requires { 5 * open_count (L.Lattice.order self.now.lattice) self.now.levels observer ≤ length buffer.old }
-        ensures { buffer.new ≡ sheet_before (L.Lattice.order self.now.lattice) self.now.levels self.now.values observer buffer.old }
+        requires { 5 * open_count (L.Lattice.order self.now.lattice) self.now.levels observer
+            ≤ length buffer.old }
+        ensures { buffer.new
+            ≡ sheet_before (L.Lattice.order self.now.lattice) self.now.levels self.now.values observer buffer.old }
     {
         // Tried in place of `at`: the slice of what is left, moved on at each line. After the loop a proof knows the
         // buffer's length alone. And a loop over the open variables by `filter`, alone or beside `chunks_exact_mut`: the

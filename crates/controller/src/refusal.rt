@@ -1,14 +1,19 @@
 ghost use Rattle.std.specs.Prelude.{◌≡◌};
 ghost use Rattle.controller.specs.Answers.{refusal_number};
 
+use thiserror::Error;
+
 /// Why a call was refused. A refused call changes nothing.
-#[derive(Clone, Copy, PartialEq, Eq, Debug)]
+#[derive(Clone, Copy, PartialEq, Eq, Debug, Error)]
 pub enum Refusal {
     /// There is no variable of that number.
+    #[error("there is no variable of that number")]
     NoVariable,
     /// The code is no level of the lattice.
+    #[error("the code is no level of the lattice")]
     NoLevel,
     /// The buffer is shorter than the sheet.
+    #[error("the buffer is shorter than the sheet")]
     ShortBuffer,
 }
 

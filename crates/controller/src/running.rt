@@ -1,4 +1,5 @@
 ghost use Rattle.std.specs.Prelude.{◌≡◌};
+ghost use Rattle.push.specs.Run.{Advanced};
 ghost use Rattle.controller.specs.Answers.{advance_answer, ending_number};
 ghost use Rattle.controller.specs.State.{advance_outcome, end_outcome};
 
@@ -25,15 +26,23 @@ impl<L: Lattice> Model for Running<L> {
 
     ghost Value = { RunningState L };
 
-    ghost view = { λ s. record { lattice = s.grades.lattice; levels = s.grades.levels; remembered = s.remembered; program = s.run.program; run = run_state s.run } };
+    ghost view = { λ s. record {
+      lattice = s.grades.lattice;
+      levels = s.grades.levels;
+      remembered = s.remembered;
+      program = s.run.program;
+      run = run_state s.run;
+    } };
 
-    ghost invariant = { λ s. Graded (L.Lattice.order s.grades.lattice) s.grades.levels × (length s.remembered ≡ 32) };
+    ghost invariant = { λ s. Graded (L.Lattice.order s.grades.lattice) s.grades.levels
+        × (length s.remembered ≡ 32) };
 }
 
 impl<L: Lattice> Running<L> {
     /// Makes steps until the run stops or `budget` are made, and answers the status and how many.
     pub fn advance(&mut self, budget: u32) -> (Status, u32)
-        ensures makes_the_machines_steps { (advance_answer result, self.new) ≡ advance_outcome self.old budget }
+        ensures advances_the_run { (advance_answer result, self.new) ≡ advance_outcome self.old budget }
+        ensures counted_steps_are_the_machines { Advanced self.old.program budget result.1 self.old.run self.new.run }
     {
         self.run.advance(budget)
     }

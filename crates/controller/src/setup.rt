@@ -1,4 +1,4 @@
-ghost use Rattle.std.specs.Prelude.{◌≡◌};
+ghost use Rattle.std.specs.Prelude.{◌≡◌, IfErr};
 ghost use Rattle.controller.specs.Answers.{done_answer};
 ghost use Rattle.controller.specs.State.{new_state, grade_outcome, sealed_state};
 
@@ -40,7 +40,9 @@ impl<L: Lattice> Setup<L> {
 
     /// Gives the variable of a number, 0 to 31, a level.
     pub fn grade(&mut self, variable: u8, level: u16) -> Result<(), Refusal>
-        ensures grades_or_refuses { (done_answer result, self.new) ≡ grade_outcome L.Lattice.order self.old variable level }
+        ensures grades_or_refuses { (done_answer result, self.new)
+            ≡ grade_outcome L.Lattice.order self.old variable level }
+        ensures refused_changes_nothing { IfErr result (λ _. self.new ≡ self.old) }
     {
         let index = index_of(variable)?;
         if !self.grades.lattice.is_level(level) {

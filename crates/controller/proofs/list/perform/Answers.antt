@@ -1,24 +1,24 @@
-use Rattle.std.proofs.Common.{◌++◌, map, vec_items, ap, ◌∙◌}
+use Rattle.std.proofs.Common.{map, vec_items, ap, ◌∙◌}
 use Rattle.controller.specs.State.{SetupState}
 use Rattle.controller.specs.Lists.{in_setup, transcript_from}
-use Rattle.controller.specs.Of.{call_of, answer_of, setup_of}
+use Rattle.controller.specs.Of.{call_of, setup_of}
 use Rattle.controller.proofs.ListFacts.{answered_turn, disallowed_turn, last_turn}
 use Rattle.controller.proofs.list.perform.Goals as goal
 
-pub loop-place-preserved : goal.loop-place-preserved
-loop-place-preserved g c =
-    answered_turn g.L.Lattice.order c.args.calls.now c.loop-place.place c.loop-place.phase (vec_items c.loop-place.answers) _ c.loop-place.invariant _
-    c.loop-place-test.true c.in_ok-next.field-0 c.in_ok-next.ensures c.in-Some.next c.in-Some.answer (vec_items c.push-in-loop-place.new.self)
+pub loop-position-preserved : goal.loop-position-preserved
+loop-position-preserved g c =
+    answered_turn g.L.Lattice.order c.args.calls.now c.loop-position.position c.loop-position.phase (vec_items c.loop-position.answers) _ c.loop-position.invariant _
+    c.loop-position-test.true c.in_ok-next.field-0 c.in_ok-next.ensures c.in-Some.next c.in-Some.answer (vec_items c.push-in-loop-position.new.self)
     c.in-Some.is c.in_ok-push-2.ensures.items
 
 pub returns-in_default : goal.returns-in_default
 returns-in_default g c =
-    disallowed_turn g.L.Lattice.order c.args.calls.now c.loop-place.place c.loop-place.phase (vec_items c.loop-place.answers) _ c.loop-place.invariant _
-    c.loop-place-test.true c.in_ok-next.field-0 c.in_ok-next.ensures (vec_items c.push.new.self) c.in_default.is c.in_ok-push.ensures.items
+    disallowed_turn g.L.Lattice.order c.args.calls.now c.loop-position.position c.loop-position.phase (vec_items c.loop-position.answers) _ c.loop-position.invariant _
+    c.loop-position-test.true c.in_ok-next.field-0 c.in_ok-next.ensures (vec_items c.push.new.self) c.in_default.is c.in_ok-push.ensures.items
     ∙ ap (λ (s : SetupState _). transcript_from 0 (in_setup (setup_of g.L.Lattice.order s)) (map call_of c.args.calls.now)) c.new.ensures.begins_with_highest_levels
 
 pub returns : goal.returns
 returns g c =
-    last_turn g.L.Lattice.order c.args.calls.now c.loop-place.place c.loop-place.phase (vec_items c.loop-place.answers) _ c.loop-place.invariant
-    c.loop-place-test.false
+    last_turn g.L.Lattice.order c.args.calls.now c.loop-position.position c.loop-position.phase (vec_items c.loop-position.answers) _ c.loop-position.invariant
+    c.loop-position-test.false
     ∙ ap (λ (s : SetupState _). transcript_from 0 (in_setup (setup_of g.L.Lattice.order s)) (map call_of c.args.calls.now)) c.new.ensures.begins_with_highest_levels

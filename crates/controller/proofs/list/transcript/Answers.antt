@@ -13,8 +13,8 @@ returns g c =
     let laws = g.met.L.Lattice.lawful c.args.lattice in
     let calls = map call_of c.args.calls.now in
     record {
-      transcript = c.perform.ensures;
-      answers_by_the_rules =
+      answers_are_the_transcript = c.perform.ensures;
+      answers_are_by_the_rules =
           IfOk-weaker c.perform.result _ _ (λ answers e. subst (AnswersOf order calls) (sym e) (answers_of_transcript order laws calls)) c.perform.ensures;
       transcript_follows_the_rules = transcript_follows_the_rules order laws;
       no_stack_faults = no_stack_faults order laws;

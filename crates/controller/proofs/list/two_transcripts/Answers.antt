@@ -17,8 +17,8 @@ returns g c =
     let others = map call_of c.args.others.now in
     let made = c.perform_both.ensures in
     record {
-      transcripts = made;
-      answers_by_the_rules =
+      answers_are_the_transcripts = made;
+      answers_are_by_the_rules =
           IfOk-weaker c.perform_both.result _ _
           (λ both e. (
             subst (AnswersOf o calls) (sym e.0) (answers_of_transcript o laws calls),
