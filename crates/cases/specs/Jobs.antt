@@ -24,7 +24,9 @@ load_store level =
 -- Job B, with the junction of its branch and the surrounding level of label 6.
 abbrev pub job_b : ℕ → ℕ → List ℕ
 job_b junction surrounding =
-    (8 ∷ 0 ∷ 2 ∷ 0 ∷ []) ++ ins 1 0 1 ++ ins 3 0 0 ++ ins 6 0 0 ++ ins 10 junction 6 ++ ins 3 0 5 ++ ins 9 0 7 ++ ins 3 0 9 ++ ins 2 0 2
+    (8 ∷ 0 ∷ 2 ∷ 0 ∷ [])
+    ++ ins 1 0 1 ++ ins 3 0 0 ++ ins 6 0 0 ++ ins 10 junction 6
+    ++ ins 3 0 5 ++ ins 9 0 7 ++ ins 3 0 9 ++ ins 2 0 2
     ++ claim 0 0 (none ++ none)
     ++ claim 1 0 (place 0 3 ++ none)
     ++ claim 2 0 (place 0 0 ++ place 0 3)

@@ -68,13 +68,16 @@ pub record WorkedCases : Type 0 where
       advances (0 ∷ 0 ∷ 0 ∷ 0 ∷ []) values budgets ≡ replicate (length budgets) (1, 0)
   pub job_b_runs : (ran (job_b 7 3) (values_with (pos 0)) 100).0 ≡ (1, 7)
   pub job_b_ends : (ended (job_b 7 3) (values_with (pos 0)) 100).0 ≡ 1
-  pub job_b_stores_five : get_or (ended (job_b 7 3) (values_with (pos 0)) 100).1.values 2 (pos 0) ≡ pos 5
+  pub job_b_stores_five :
+      get_or (ended (job_b 7 3) (values_with (pos 0)) 100).1.values 2 (pos 0) ≡ pos 5
   pub job_b_runs_shorter : (ran (job_b 7 3) (values_with (pos 4)) 100).0 ≡ (1, 6)
   pub job_b_ends_shorter : (ended (job_b 7 3) (values_with (pos 4)) 100).0 ≡ 1
-  pub job_b_stores_nine : get_or (ended (job_b 7 3) (values_with (pos 4)) 100).1.values 2 (pos 0) ≡ pos 9
+  pub job_b_stores_nine :
+      get_or (ended (job_b 7 3) (values_with (pos 4)) 100).1.values 2 (pos 0) ≡ pos 9
   pub goto_itself_goes_on : (ran goto_itself (values_with (pos 0)) 1000).0 ≡ (0, 1000)
   pub goto_itself_ends_unfinished : (ended goto_itself (values_with (pos 0)) 1000).0 ≡ 0
-  pub goto_itself_gives_values_back : (ended goto_itself (values_with (pos 4)) 1000).1.values ≡ values_with (pos 4)
+  pub goto_itself_gives_values_back :
+      (ended goto_itself (values_with (pos 4)) 1000).1.values ≡ values_with (pos 4)
   -- sums past the ends of 32 bits
   pub sum_past_the_top : sum (pos 2147483647) (pos 1) ≡ negsuc 2147483647
   pub difference_past_the_bottom : difference (negsuc 2147483647) (pos 1) ≡ pos 2147483647

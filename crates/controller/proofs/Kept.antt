@@ -157,7 +157,8 @@ module _ (o : Order) (laws : Laws o) where
   setup_good levels g seal = good_allowed refl (good_ready g (nothing_is_safe o levels) (length-replicate 32 (pos 0)))
   setup_good levels g _ = good_disallowed
 
-  module _ (levels : List ℕ) (values : List ℤ) (program : List Instruction) (g : Graded o levels) (safe : Safe o levels program) (long : length values ≡ 32) where
+  module _ (levels : List ℕ) (values : List ℤ) (program : List Instruction)
+      (g : Graded o levels) (safe : Safe o levels program) (long : length values ≡ 32) where
     abbrev ready : ReadyState Order
     ready = record { lattice = o; levels = levels; values = values; program = program }
 

@@ -15,9 +15,11 @@ use Rattle.controller.specs.Lists.{Call, Answer, State, Outcome, allowed, disall
 abbrev pub rest_of : ℕ → List Call → Outcome → List Answer
 rest_of position calls out = after_call position out (λ next. transcript_from (position + 1) next calls)
 
-module _ (position : ℕ) (s : State) (calls : List Call) (done total : List Answer) (so_far : done ++ transcript_from position s (drop position calls) ≡ total) where
+module _ (position : ℕ) (s : State) (calls : List Call) (done total : List Answer)
+    (so_far : done ++ transcript_from position s (drop position calls) ≡ total) where
   module _ (d : Call) (some : position < length calls) where
-    next_is : (out : Outcome) → outcome s (get_or calls position d) ≡ out → transcript_from position s (drop position calls) ≡ rest_of position (drop (position + 1) calls) out
+    next_is : (out : Outcome) → outcome s (get_or calls position d) ≡ out →
+        transcript_from position s (drop position calls) ≡ rest_of position (drop (position + 1) calls) out
     next_is out e = ap (transcript_from position s) (drop_more calls position d some) ∙ ap (rest_of position (drop (position + 1) calls)) e
 
     one_answered : (answer : Answer) (next : State) → allowed answer next ≡ outcome s (get_or calls position d) →
@@ -32,21 +34,25 @@ module _ (position : ℕ) (s : State) (calls : List Call) (done total : List Ans
   all_answered h = sym (append-nil done) ∙ ap (λ rest. done ++ rest) (ap (transcript_from position s) (sym (drop_all position calls h))) ∙ so_far
 
 -- The same of the code's calls, answers and states.
-module _ {L : Type 0} (order : L → Order) (calls : List code.Call) (n : ℕ) (before : Phase L) (answers : List code_answer.Answer) (total : List Answer) (so_far : map answer_of answers ++ transcript_from n (state_of order before) (drop n (map call_of calls)) ≡ total) where
+module _ {L : Type 0} (order : L → Order) (calls : List code.Call) (n : ℕ) (before : Phase L)
+    (answers : List code_answer.Answer) (total : List Answer)
+    (so_far : map answer_of answers ++ transcript_from n (state_of order before) (drop n (map call_of calls)) ≡ total) where
   abbrev plain : List Call
   plain = map call_of calls
 
   abbrev here : State
   here = state_of order before
 
-  module _ (d : code.Call) (some : n < length calls) (step : Option (Phase L × code_answer.Answer)) (told : outcome_of order step ≡ outcome here (call_of (get_or calls n d))) where
+  module _ (d : code.Call) (some : n < length calls) (step : Option (Phase L × code_answer.Answer))
+      (told : outcome_of order step ≡ outcome here (call_of (get_or calls n d))) where
     told_plainly : (out : Outcome) → outcome_of order step ≡ out → out ≡ outcome here (get_or plain n (call_of d))
     told_plainly out e = sym e ∙ told ∙ ap (outcome here) (sym (get_or-map call_of calls n d))
 
     within : n < length plain
     within = omega (arith, length-map calls call_of)
 
-    pub answered_turn : (next : Phase L) (answer : code_answer.Answer) (more : List code_answer.Answer) → step ≡ Some (next, answer) → more ≡ answers ++ (answer ∷ []) →
+    pub answered_turn : (next : Phase L) (answer : code_answer.Answer) (more : List code_answer.Answer) →
+        step ≡ Some (next, answer) → more ≡ answers ++ (answer ∷ []) →
         map answer_of more ++ transcript_from (n + 1) (state_of order next) (drop (n + 1) plain) ≡ total
     answered_turn next answer more is pushed =
         let left : List Answer = transcript_from (n + 1) (state_of order next) (drop (n + 1) plain) in

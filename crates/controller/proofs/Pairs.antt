@@ -219,7 +219,9 @@ module _ (o : Order) (laws : Laws o) (w : ℕ) where
     turn disallowed disallowed both_disallowed g h rest e =
         record {
           same_sheets = ap₂ (λ (x : Bool) (xs : List (List ℕ)). cond x [] [] ∷ xs) same_show (ap (map _) (none_made calls ∙ sym (none_made others)));
-          same_answers = ap₂ (λ (x : Bool) (xs : List Answer). cond x (not_allowed position ∷ []) [] ++ xs) same_show (ap (flat_map _) (none_made calls ∙ sym (none_made others)));
+          same_answers =
+              ap₂ (λ (x : Bool) (xs : List Answer). cond x (not_allowed position ∷ []) [] ++ xs) same_show
+              (ap (flat_map _) (none_made calls ∙ sym (none_made others)));
         }
     turn (allowed a next) disallowed p g h rest e = elim p [ ]
     turn disallowed (allowed b other) p g h rest e = elim p [ ]
@@ -228,7 +230,8 @@ module _ (o : Order) (laws : Laws o) (w : ℕ) where
         let then = rest other (related parts.0) good good' parts.1 in
         record {
           same_sheets = ap₂ (λ (x : List ℕ) (xs : List (List ℕ)). x ∷ xs) (sheet_here (shows_to w c) (shows_to w d) same_show same_answer) then.same_sheets;
-          same_answers = ap₂ (λ (x : List Answer) (xs : List Answer). x ++ xs) (answer_here (shows_to w c) (shows_to w d) same_show same_answer) then.same_answers;
+          same_answers =
+              ap₂ (λ (x : List Answer) (xs : List Answer). x ++ xs) (answer_here (shows_to w c) (shows_to w d) same_show same_answer) then.same_answers;
         }
       where
         sheet_here : (x y : Bool) → x ≡ y → (x ≡ true → a ≡ b) → cond x (sheet_in a) [] ≡ cond y (sheet_in b) []

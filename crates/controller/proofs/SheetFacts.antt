@@ -32,7 +32,9 @@ module _ (o : Order) (levels : List ℕ) (values : List ℤ) (observer : ℕ) wh
   unfolding lines_below
   lines_none = refl
 
-  lines_more : (n : ℕ) → lines_below o levels values observer (n + 1) ≡ lines_below o levels values observer n ++ cond (is_open o levels observer n) (line n (get_or values n (pos 0))) []
+  lines_more : (n : ℕ) →
+      lines_below o levels values observer (n + 1)
+      ≡ lines_below o levels values observer n ++ cond (is_open o levels observer n) (line n (get_or values n (pos 0))) []
   unfolding lines_below
   lines_more n = ap (lines_below o levels values observer) (add-one n)
 
@@ -59,7 +61,9 @@ module _ (o : Order) (levels : List ℕ) (values : List ℤ) (observer : ℕ) wh
   room n h k = let more = open_more n in let grows = open_grows (n + 1) 32 (omega arith) in grind (arith, k)
 
 -- The values beside the levels, with their numbers: at the place n are those of the variable n.
-pub pair_at : (values : List ℤ) (levels : List ℕ) (n : ℕ) (x : ℕ × (ℤ × ℕ)) → (n < length (enumerate_from 0 (zip values levels))) × (x ≡ get_or (enumerate_from 0 (zip values levels)) n x) → x ≡ (n, (get_or values n (pos 0), get_or levels n 0))
+pub pair_at : (values : List ℤ) (levels : List ℕ) (n : ℕ) (x : ℕ × (ℤ × ℕ)) →
+    (n < length (enumerate_from 0 (zip values levels))) × (x ≡ get_or (enumerate_from 0 (zip values levels)) n x) →
+    x ≡ (n, (get_or values n (pos 0), get_or levels n 0))
 pair_at values levels n x turn =
     let within : n < length (zip values levels) = omega (arith, turn.0, length-enumerate_from 0 (zip values levels)) in
     let both = length-zip values levels in
@@ -77,11 +81,16 @@ written_behind front old ys at long =
     rw (five, before, after, drop-drop, append_assoc)
 
 -- One turn of the loop that writes the lines: what is written so far, at the next variable.
-module _ (o : Order) (levels : List ℕ) (values : List ℤ) (observer n at : ℕ) (old buffer : List ℕ) (so_far : at ≡ 5 * open_below o levels observer n) (held : buffer ≡ lines_below o levels values observer n ++ drop at old) where
-  pub closed_turn : is_open o levels observer n ≡ false → (at ≡ 5 * open_below o levels observer (n + 1)) × (buffer ≡ lines_below o levels values observer (n + 1) ++ drop at old)
+module _ (o : Order) (levels : List ℕ) (values : List ℤ) (observer n at : ℕ) (old buffer : List ℕ)
+    (so_far : at ≡ 5 * open_below o levels observer n)
+    (held : buffer ≡ lines_below o levels values observer n ++ drop at old) where
+  pub closed_turn : is_open o levels observer n ≡ false →
+      (at ≡ 5 * open_below o levels observer (n + 1)) × (buffer ≡ lines_below o levels values observer (n + 1) ++ drop at old)
   closed_turn h = let more = open_more o levels values observer n in let lines = lines_more o levels values observer n in grind (arith, append-nil)
 
-  pub open_turn : (ys : List ℕ) → ys ≡ line n (get_or values n (pos 0)) → is_open o levels observer n ≡ true → (at + 5 ≡ 5 * open_below o levels observer (n + 1)) × (put_mid at (at + 5 - at) buffer ys ≡ lines_below o levels values observer (n + 1) ++ drop (at + 5) old)
+  pub open_turn : (ys : List ℕ) → ys ≡ line n (get_or values n (pos 0)) → is_open o levels observer n ≡ true →
+      (at + 5 ≡ 5 * open_below o levels observer (n + 1))
+      × (put_mid at (at + 5 - at) buffer ys ≡ lines_below o levels values observer (n + 1) ++ drop (at + 5) old)
   open_turn ys e h =
       let more = open_more o levels values observer n in
       let lines = lines_more o levels values observer n in

@@ -58,11 +58,13 @@ pub data LeadsTo : State → Call → Answer → State → Type 0 where
       LeadsTo (is_ready s) (mount bytes) (mounted (0, 0))
       (is_ready (record s { program = decoded_code bytes (opening bytes) }))
   mount_refused :
-      {s : ReadyState Order} {bytes : List ℕ} {number label : ℕ} → FirstBroken s.lattice s.levels bytes number label →
+      {s : ReadyState Order} {bytes : List ℕ} {number label : ℕ} →
+      FirstBroken s.lattice s.levels bytes number label →
       LeadsTo (is_ready s) (mount bytes) (mounted (number, label)) (is_ready s)
   set_accepted :
       {s : ReadyState Order} {v : ℕ} {x : ℤ} → v < 32 →
-      LeadsTo (is_ready s) (set v x) (was_set 0) (is_ready (record s { values = slice_set s.values v x }))
+      LeadsTo (is_ready s) (set v x) (was_set 0)
+      (is_ready (record s { values = slice_set s.values v x }))
   set_no_variable :
       {s : ReadyState Order} {v : ℕ} {x : ℤ} → 32 ≤ v →
       LeadsTo (is_ready s) (set v x) (was_set (refusal_number NoVariable)) (is_ready s)
@@ -73,15 +75,21 @@ pub data LeadsTo : State → Call → Answer → State → Type 0 where
       {s : ReadyState Order} {v : ℕ} → 32 ≤ v →
       LeadsTo (is_ready s) (read v) (was_read (refusal_number NoVariable, pos 0)) (is_ready s)
   show_accepted :
-      {s : ReadyState Order} {observer length : ℕ} → observer < s.lattice.span → 5 * open_count s.lattice s.levels observer ≤ length →
+      {s : ReadyState Order} {observer length : ℕ} →
+      observer < s.lattice.span → 5 * open_count s.lattice s.levels observer ≤ length →
       LeadsTo (is_ready s) (show observer length)
-      (shown (0, open_count s.lattice s.levels observer) (sheet s.lattice s.levels s.values observer)) (is_ready s)
+      (shown (0, open_count s.lattice s.levels observer)
+      (sheet s.lattice s.levels s.values observer))
+      (is_ready s)
   show_no_level :
       {s : ReadyState Order} {observer length : ℕ} → s.lattice.span ≤ observer →
-      LeadsTo (is_ready s) (show observer length) (shown (refusal_number NoLevel, 0) []) (is_ready s)
+      LeadsTo (is_ready s) (show observer length)
+      (shown (refusal_number NoLevel, 0) []) (is_ready s)
   show_short_buffer :
-      {s : ReadyState Order} {observer length : ℕ} → observer < s.lattice.span → length < 5 * open_count s.lattice s.levels observer →
-      LeadsTo (is_ready s) (show observer length) (shown (refusal_number ShortBuffer, 0) []) (is_ready s)
+      {s : ReadyState Order} {observer length : ℕ} →
+      observer < s.lattice.span → length < 5 * open_count s.lattice s.levels observer →
+      LeadsTo (is_ready s) (show observer length)
+      (shown (refusal_number ShortBuffer, 0) []) (is_ready s)
   start_accepted :
       {s : ReadyState Order} →
       LeadsTo (is_ready s) start started
@@ -93,9 +101,12 @@ pub data LeadsTo : State → Call → Answer → State → Type 0 where
         run = begun s.program s.values;
       }))
   unseal_accepted :
-      {s : ReadyState Order} → LeadsTo (is_ready s) unseal unsealed (in_setup (record { lattice = s.lattice; levels = s.levels }))
+      {s : ReadyState Order} →
+      LeadsTo (is_ready s) unseal unsealed
+      (in_setup (record { lattice = s.lattice; levels = s.levels }))
   advance_accepted :
-      {s : RunningState Order} {budget count : ℕ} {after : RunState} → AdvancesTo s.program budget s.run count after →
+      {s : RunningState Order} {budget count : ℕ} {after : RunState} →
+      AdvancesTo s.program budget s.run count after →
       LeadsTo (is_running s) (advance budget) (advanced (status_number after.status, count))
       (is_running (record s { run = after }))
   end_halted :
@@ -122,7 +133,8 @@ pub data LeadsTo : State → Call → Answer → State → Type 0 where
 pub data AnswersFrom : ℕ → State → List Call → List Answer → Type 0 where
   none : {position : ℕ} {s : State} → AnswersFrom position s [] []
   made :
-      {position : ℕ} {s t : State} {call : Call} {answer : Answer} {calls : List Call} {answers : List Answer} →
+      {position : ℕ} {s t : State} {call : Call} {answer : Answer} →
+      {calls : List Call} {answers : List Answer} →
       LeadsTo s call answer t → AnswersFrom (position + 1) t calls answers →
       AnswersFrom position s (call ∷ calls) (answer ∷ answers)
   stopped :
@@ -137,8 +149,11 @@ AnswersOf o calls answers = AnswersFrom 0 (new_controller o) calls answers
 -- answers.
 pub record TranscriptFollowsTheRules (o : Order) : Type 0 where
   pub rule_gives_the_outcome :
-      {s t : State} {call : Call} {answer : Answer} → LeadsTo s call answer t → outcome s call ≡ allowed answer t
-  pub elsewhere_is_disallowed : (s : State) (call : Call) → name_of s ≢ belongs_to call → outcome s call ≡ disallowed
+      {s t : State} {call : Call} {answer : Answer} →
+      LeadsTo s call answer t → outcome s call ≡ allowed answer t
+  pub elsewhere_is_disallowed :
+      (s : State) (call : Call) → name_of s ≢ belongs_to call → outcome s call ≡ disallowed
   pub rules_give_the_transcript :
-      {calls : List Call} {answers : List Answer} → AnswersOf o calls answers → transcript o calls ≡ answers
+      {calls : List Call} {answers : List Answer} →
+      AnswersOf o calls answers → transcript o calls ≡ answers
   pub transcript_is_by_the_rules : (calls : List Call) → AnswersOf o calls (transcript o calls)

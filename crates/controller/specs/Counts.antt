@@ -77,10 +77,12 @@ pub data Alike (observer : ℕ) : State → List Call → List Call → Type 0 w
       {s : State} {call : Call} {calls others : List Call} →
       Alike observer (after s call) calls others → Alike observer s (call ∷ calls) (call ∷ others)
   budgets :
-      {s : State} {a b : ℕ} {calls others : List Call} → Alike observer (after s (advance a)) calls others →
+      {s : State} {a b : ℕ} {calls others : List Call} →
+      Alike observer (after s (advance a)) calls others →
       Alike observer s (advance a ∷ calls) (advance b ∷ others)
   closed :
-      {s : State} {v : ℕ} {x y : ℤ} {calls others : List Call} → v < 32 → open_in s observer v ≡ false →
+      {s : State} {v : ℕ} {x y : ℤ} {calls others : List Call} →
+      v < 32 → open_in s observer v ≡ false →
       Alike observer (after s (set v x)) calls others →
       Alike observer s (set v x ∷ calls) (set v y ∷ others)
 
@@ -101,4 +103,5 @@ ShownTheSame o calls others left right observer =
 -- that no program could write included.
 abbrev pub ClosedValuesStayClosed : Order → List Call → Type 0
 ClosedValuesStayClosed o calls =
-    (observer : ℕ) (others : List Call) → ShownTheSame o calls others (transcript o calls) (transcript o others) observer
+    (observer : ℕ) (others : List Call) →
+    ShownTheSame o calls others (transcript o calls) (transcript o others) observer

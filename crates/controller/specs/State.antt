@@ -39,7 +39,8 @@ pub record Safe (o : Order) (levels : List ℕ) (program : List Instruction) : T
 
 -- In what follows `order` gives the order of a lattice. A new controller has every variable at the highest level.
 abbrev pub new_state : {L : Type 0} → (L → Order) → L → SetupState L
-new_state order lattice = record { lattice = lattice; levels = replicate 32 (order lattice).highest }
+new_state order lattice =
+    record { lattice = lattice; levels = replicate 32 (order lattice).highest }
 
 abbrev pub grade_outcome : {L : Type 0} → (L → Order) → SetupState L → ℕ → ℕ → ℕ × SetupState L
 grade_outcome order s variable level =
@@ -57,13 +58,16 @@ sealed_state s =
 abbrev pub mounted : {L : Type 0} → ReadyState L → ℕ × ℕ → List Instruction → (ℕ × ℕ) × ReadyState L
 mounted s v program = if v.0 == 0 then (v, record s { program = program }) else (v, s)
 
-abbrev pub mount_outcome : {L : Type 0} → (L → Order) → ReadyState L → List ℕ → (ℕ × ℕ) × ReadyState L
+abbrev pub mount_outcome :
+    {L : Type 0} → (L → Order) → ReadyState L → List ℕ → (ℕ × ℕ) × ReadyState L
 mount_outcome order s bytes =
     mounted s (verdict (order s.lattice) s.levels bytes) (decoded_code bytes (opening bytes))
 
 abbrev pub set_outcome : {L : Type 0} → ReadyState L → ℕ → ℤ → ℕ × ReadyState L
 set_outcome s variable value =
-    if nat_lt variable 32 then (0, record s { values = slice_set s.values variable value }) else (1, s)
+    if nat_lt variable 32
+    then (0, record s { values = slice_set s.values variable value })
+    else (1, s)
 
 abbrev pub read_outcome : {L : Type 0} → ReadyState L → ℕ → ℕ × ℤ
 read_outcome s variable =

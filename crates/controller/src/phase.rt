@@ -26,7 +26,8 @@ type Step<L> = Option<(Phase<L>, Answer)>;
 
 // Performs a call in setup; none where setup does not allow it.
 fn call_in_setup<L: Lattice + Drop>(mut setup: Setup<L>, call: Call) -> Step<L>
-    ensures { outcome_of L.Lattice.order result ≡ setup_call (setup_of L.Lattice.order setup) (call_of call.entry) }
+    ensures { outcome_of L.Lattice.order result
+        ≡ setup_call (setup_of L.Lattice.order setup) (call_of call.entry) }
 {
     match call {
         Call::Grade { variable, level } => {
@@ -40,7 +41,8 @@ fn call_in_setup<L: Lattice + Drop>(mut setup: Setup<L>, call: Call) -> Step<L>
 
 // Performs a call while a run is open; none where that does not allow it.
 fn call_while_running<L: Lattice + Drop>(mut running: Running<L>, call: Call) -> Step<L>
-    ensures { outcome_of L.Lattice.order result ≡ running_call (running_of L.Lattice.order running) (call_of call.entry) }
+    ensures { outcome_of L.Lattice.order result
+        ≡ running_call (running_of L.Lattice.order running) (call_of call.entry) }
 {
     match call {
         Call::Advance(budget) => {
@@ -62,7 +64,8 @@ fn show_within<L: Lattice>(
     observer: u16,
     length: usize,
 ) -> Result<Result<Sheet, Refusal>, AllocError>
-    ensures { IfOk result (λ a. sheet_answer a ≡ sheet_shown (show_outcome L.Lattice.order ready.now observer (replicate length 0))) }
+    ensures { IfOk result (λ answer. sheet_answer answer
+        ≡ sheet_shown (show_outcome L.Lattice.order ready.now observer (replicate length 0))) }
 {
     let mut room = [0; SHEET];
     let buffer = &mut room[..length.min(SHEET)];
@@ -82,7 +85,8 @@ fn call_when_ready<L: Lattice + Drop>(
     mut ready: Ready<L>,
     call: Call,
 ) -> Result<Step<L>, AllocError>
-    ensures { IfOk result (λ step. outcome_of L.Lattice.order step ≡ ready_call (ready_of L.Lattice.order ready) (call_of call.entry)) }
+    ensures { IfOk result (λ step. outcome_of L.Lattice.order step
+        ≡ ready_call (ready_of L.Lattice.order ready) (call_of call.entry)) }
 {
     let answer = match call {
         Call::Mount(job) => Answer::Mounted(ready.mount(job)),
@@ -101,7 +105,8 @@ fn call_when_ready<L: Lattice + Drop>(
 impl<L: Lattice + Drop> Phase<L> {
     // Performs a call; none where the state does not allow it.
     pub(crate) fn call(self, heap: Global, call: Call) -> Result<Step<L>, AllocError>
-        ensures { IfOk result (λ step. outcome_of L.Lattice.order step ≡ outcome (state_of L.Lattice.order self) (call_of call.entry)) }
+        ensures { IfOk result (λ step. outcome_of L.Lattice.order step
+            ≡ outcome (state_of L.Lattice.order self) (call_of call.entry)) }
     {
         match self {
             Phase::Setup(setup) => Ok(call_in_setup(setup, call)),

@@ -6,7 +6,9 @@ use crate::refusal::Refusal;
 
 // The index of the variable of a number, where there is one.
 pub(crate) fn index_of(variable: u8) -> Result<usize, Refusal>
-    ensures { MatchResult result (λ index. (variable < 32) × (index ≡ variable)) (λ refusal. (32 ≤ variable) × (refusal ≡ NoVariable)) }
+    ensures { MatchResult result
+        (λ index. (variable < 32) × (index ≡ variable))
+        (λ refusal. (32 ≤ variable) × (refusal ≡ NoVariable)) }
 {
     let index = usize::from(variable);
     if index < VARIABLES {
