@@ -222,11 +222,8 @@ sized_few : (n d rest : ℕ) (s : Sizes) → sized n d rest ≡ Ok s → s.instr
 sized_few n d rest s e = grind (arith, nat_tests)
 
 opened_few : (bytes : List ℕ) (s : Sizes) → opening bytes ≡ Ok s → s.instructions ≤ 128
-opened_few [] s e = cc
-opened_few (a ∷ []) s e = cc
-opened_few (a ∷ b ∷ []) s e = cc
-opened_few (a ∷ b ∷ c ∷ []) s e = cc
 opened_few (n0 ∷ n1 ∷ d0 ∷ d1 ∷ rest) s e = sized_few (n0 + n1 * 256) (d0 + d1 * 256) (length rest) s e
+opened_few _ s e = cc
 
 -- What comes first of two.
 pub first_when_zero : (v w : ℕ × ℕ) → v.0 ≡ 0 → first_of v w ≡ w

@@ -1,5 +1,6 @@
 -- A job that decodes has sound instructions and claims over the lattice's levels. Assumes nothing.
 use Rattle.std.proofs.Common.{◌≡◌, ℕ, zero, suc, ◌+◌, ◌*◌, ◌<◌, ◌≤◌, Bool, true, false, cond, ◌&&◌, eqb, ltb, leb, List, [], ◌∷◌, ◌++◌, length, get_or, drop, ℤ, pos, negsuc, Some, None, Option, sym, refl, ap, ◌∙◌, subst, add-one, arith, length-append, w32, to_z}
+use Rattle.std.specs.Bool.{then_some}
 use Rattle.std.specs.Option.{option_to_list}
 use Rattle.std.specs.List.{AllByRecursion as All}
 use Rattle.std.proofs.lemmas.List.FromFn.{map-range_with_len_more}
@@ -47,7 +48,7 @@ module _ (exit : ℕ) where
   either true x y h k = h
   either false x y h k = k
 
-  given_sound : (b : Bool) (i : Instruction) → (b ≡ true → Sound exit i) → SaysSound (cond b (Some i) None)
+  given_sound : (b : Bool) (i : Instruction) → (b ≡ true → Sound exit i) → SaysSound (then_some b i)
   given_sound true i h = (h refl, tt)
   given_sound false i h = tt
 
@@ -57,6 +58,7 @@ module _ (exit : ℕ) where
       let bare = none_else && up_to 0 operand in
       let variable = none_else && up_to 31 operand in
       let small : variable ≡ true → natural operand < 32 = λ h. (let k = up_to_is 31 operand (and_parts none_else (up_to 31 operand) h).1 in omega arith) in
+      let target : up_to exit operand ≡ true → natural operand ≤ exit = up_to_is exit operand in
       either (eqb operation 1) _ _ (given_sound variable (Load (natural operand)) (λ h. load (small h)))
       (either (eqb operation 2) _ _ (given_sound variable (Store (natural operand)) (λ h. store (small h)))
       (either (eqb operation 3) _ _ (given_sound none_else (Push operand) (λ _. push))
@@ -65,18 +67,15 @@ module _ (exit : ℕ) where
       (either (eqb operation 6) _ _ (given_sound bare Eq (λ _. eq))
       (either (eqb operation 7) _ _ (given_sound bare Less (λ _. less))
       (either (eqb operation 8) _ _ (given_sound bare Not (λ _. not))
-      (either (eqb operation 9) _ _ (given_sound (none_else && up_to exit operand) (Goto (natural operand)) (λ h. goto (up_to_is exit operand (and_parts none_else (up_to exit operand) h).1)))
-      (either (eqb operation 10) _ _ (given_sound (leb junction exit && up_to exit operand) (GotoF (natural operand) junction) (λ h. gotof (up_to_is exit operand (and_parts (leb junction exit) (up_to exit operand) h).1))) tt)))))))))
+      (either (eqb operation 9) _ _
+      (given_sound (none_else && up_to exit operand) (Goto (natural operand)) (λ h. goto (target (and_parts none_else (up_to exit operand) h).1)))
+      (either (eqb operation 10) _ _
+      (given_sound (leb junction exit && up_to exit operand) (GotoF (natural operand) junction)
+      (λ h. gotof (target (and_parts (leb junction exit) (up_to exit operand) h).1))) tt)))))))))
 
   record_sound : (bytes : List ℕ) → SaysSound (instruction_in exit bytes)
-  record_sound [] = tt
-  record_sound (_ ∷ []) = tt
-  record_sound (_ ∷ _ ∷ []) = tt
-  record_sound (_ ∷ _ ∷ _ ∷ []) = tt
-  record_sound (_ ∷ _ ∷ _ ∷ _ ∷ []) = tt
-  record_sound (_ ∷ _ ∷ _ ∷ _ ∷ _ ∷ []) = tt
   record_sound (operation ∷ junction ∷ b0 ∷ b1 ∷ b2 ∷ b3 ∷ []) = decoded_sound operation junction (to_z w32 (b0 + b1 * 256 + b2 * 65536 + b3 * 16777216))
-  record_sound (_ ∷ _ ∷ _ ∷ _ ∷ _ ∷ _ ∷ _ ∷ _) = tt
+  record_sound _ = tt
 
   all_fetched : (is : List Instruction) → All (Sound exit) is → (label : ℕ) (i : Instruction) → fetch is label ≡ Some i → Sound exit i
   all_fetched [] h label i e = cc

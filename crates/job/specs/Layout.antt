@@ -1,5 +1,5 @@
 -- Where the records of a job stand. Assumes nothing.
-use Rattle.std.specs.Prelude.{ℕ, ◌+◌, ◌*◌, cond, List, [], ◌∷◌, length, take, drop, Ok, Err, Result, ◌==◌, nat_lt}
+use Rattle.std.specs.Prelude.{ℕ, ◌+◌, ◌*◌, if◌then◌else◌, List, ◌∷◌, length, take, drop, Ok, Err, Result, ◌==◌, nat_lt}
 use Rattle.job.specs.declared.fault.ReadFault.{ReadFault}
 use Rattle.job.specs.declared.fault.ReadFault.TheVariants.{TooShort, TooManyInstructions, TooManyPlaces, WrongLength}
 
@@ -10,16 +10,15 @@ pub record Sizes : Type 0 where
 
 abbrev pub sized : ℕ → ℕ → ℕ → Result Sizes ReadFault
 sized n d rest =
-    cond (nat_lt 128 n) (Err TooManyInstructions)
-    (cond (nat_lt 8 d) (Err TooManyPlaces) (cond (rest == n * (10 + 3 * d)) (Ok (record { instructions = n; places = d })) (Err WrongLength)))
+    if nat_lt 128 n then Err TooManyInstructions
+    else if nat_lt 8 d then Err TooManyPlaces
+    else if rest == n * (10 + 3 * d) then Ok (record { instructions = n; places = d })
+    else Err WrongLength
 
 -- A job is its sizes, two bytes each, then instruction records of 6 bytes and claim records of 4 + 3 × places.
 abbrev pub opening : List ℕ → Result Sizes ReadFault
-opening [] = Err TooShort
-opening (_ ∷ []) = Err TooShort
-opening (_ ∷ _ ∷ []) = Err TooShort
-opening (_ ∷ _ ∷ _ ∷ []) = Err TooShort
 opening (n0 ∷ n1 ∷ d0 ∷ d1 ∷ rest) = sized (n0 + n1 * 256) (d0 + d1 * 256) (length rest)
+opening _ = Err TooShort
 
 -- The byte places of the records, and the records.
 abbrev pub instruction_place : ℕ → ℕ

@@ -1,5 +1,6 @@
 -- The plain meaning of the job types. Assumes nothing.
-use Rattle.std.specs.Prelude.{Some, None, Ok, Err, Option, Result}
+use Rattle.std.specs.Prelude.{Ok, Err, Option, Result}
+use Rattle.std.specs.Option.{option_map}
 use Rattle.job.specs.declared.fault.ReadFault.{ReadFault}
 use Rattle.job.specs.declared.claim.Claim.{Claim}
 use Rattle.job.specs.declared.reader.Job.{Job}
@@ -15,8 +16,11 @@ sizes_read (Err fault) = Err fault
 
 -- What a claim of a job says: its stack is that of the record at its byte place.
 abbrev pub claim_says : Job → Claim → Claimed
-claim_says j c = record { surrounding = c.surrounding; stack = stack_in (record_at j.bytes.now (sizes j) c.record_place) c.depth }
+claim_says j c =
+    record {
+      surrounding = c.surrounding;
+      stack = stack_in (record_at j.bytes.now (sizes j) c.record_place) c.depth;
+    }
 
 abbrev pub claimed : Job → Option Claim → Option Claimed
-claimed j None = None
-claimed j (Some c) = Some (claim_says j c)
+claimed j c = option_map (claim_says j) c

@@ -1,7 +1,9 @@
 -- What the records of a job say. Assumes nothing.
-use Rattle.std.specs.Prelude.{ℕ, zero, suc, ◌+◌, ◌*◌, Bool, true, false, cond, ◌&&◌, List, [], ◌∷◌, map, length, drop, ℤ, pos, negsuc, Some, None, Ok, Err, Option, Result, ◌==◌, nat_eq, nat_le, nat_lt, slice_index}
+use Rattle.std.specs.Prelude.{ℕ, zero, suc, ◌+◌, ◌*◌, Bool, true, false, if◌then◌else◌, ◌&&◌, List, [], ◌∷◌, map, length, drop, ℤ, pos, negsuc, Some, None, Option, Result, ◌==◌, nat_le, nat_lt, slice_index}
+use Rattle.std.specs.Bool.{then_some}
 use Rattle.std.specs.Int.{w32, cast_signed}
 use Rattle.std.specs.List.{range_with_len}
+use Rattle.std.specs.Option.{ok_or}
 use Rattle.push.specs.declared.instruction.Instruction.{Instruction}
 use Rattle.push.specs.declared.instruction.Instruction.TheVariants.{Load, Store, Push, Add, Sub, Eq, Less, Not, Goto, GotoF}
 use Rattle.push.specs.declared.kind.Kind.{Kind}
@@ -20,37 +22,30 @@ abbrev pub natural : ℤ → ℕ
 natural (pos n) = n
 natural (negsuc n) = 0
 
-abbrev given : {X : Type 0} → Bool → X → Option X
-given b x = cond b (Some x) None
-
 -- The instruction of an operation, a junction byte and an operand.
 abbrev pub decoded : ℕ → ℕ → ℕ → ℤ → Option Instruction
 decoded exit operation junction operand =
-    cond (operation == 1) (given (junction == 0 && up_to 31 operand) (Load (natural operand)))
-    (cond (operation == 2) (given (junction == 0 && up_to 31 operand) (Store (natural operand)))
-    (cond (operation == 3) (given (junction == 0) (Push operand))
-    (cond (operation == 4) (given (junction == 0 && up_to 0 operand) Add)
-    (cond (operation == 5) (given (junction == 0 && up_to 0 operand) Sub)
-    (cond (operation == 6) (given (junction == 0 && up_to 0 operand) Eq)
-    (cond (operation == 7) (given (junction == 0 && up_to 0 operand) Less)
-    (cond (operation == 8) (given (junction == 0 && up_to 0 operand) Not)
-    (cond (operation == 9) (given (junction == 0 && up_to exit operand) (Goto (natural operand)))
-    (cond (operation == 10) (given (nat_le junction exit && up_to exit operand) (GotoF (natural operand) junction)) None)))))))))
+    if operation == 1 then then_some (junction == 0 && up_to 31 operand) (Load (natural operand))
+    else if operation == 2 then then_some (junction == 0 && up_to 31 operand) (Store (natural operand))
+    else if operation == 3 then then_some (junction == 0) (Push operand)
+    else if operation == 4 then then_some (junction == 0 && up_to 0 operand) Add
+    else if operation == 5 then then_some (junction == 0 && up_to 0 operand) Sub
+    else if operation == 6 then then_some (junction == 0 && up_to 0 operand) Eq
+    else if operation == 7 then then_some (junction == 0 && up_to 0 operand) Less
+    else if operation == 8 then then_some (junction == 0 && up_to 0 operand) Not
+    else if operation == 9 then then_some (junction == 0 && up_to exit operand) (Goto (natural operand))
+    else if operation == 10 then
+    then_some (nat_le junction exit && up_to exit operand) (GotoF (natural operand) junction)
+    else None
 
 -- The instruction in a record of six bytes: operation, junction byte, signed operand with its lower byte first.
 abbrev pub instruction_in : ℕ → List ℕ → Option Instruction
-instruction_in exit [] = None
-instruction_in exit (_ ∷ []) = None
-instruction_in exit (_ ∷ _ ∷ []) = None
-instruction_in exit (_ ∷ _ ∷ _ ∷ []) = None
-instruction_in exit (_ ∷ _ ∷ _ ∷ _ ∷ []) = None
-instruction_in exit (_ ∷ _ ∷ _ ∷ _ ∷ _ ∷ []) = None
-instruction_in exit (operation ∷ junction ∷ b0 ∷ b1 ∷ b2 ∷ b3 ∷ []) = decoded exit operation junction (cast_signed w32 (b0 + b1 * 256 + b2 * 65536 + b3 * 16777216))
-instruction_in exit (_ ∷ _ ∷ _ ∷ _ ∷ _ ∷ _ ∷ _ ∷ _) = None
+instruction_in exit (operation ∷ junction ∷ b0 ∷ b1 ∷ b2 ∷ b3 ∷ []) =
+    decoded exit operation junction (cast_signed w32 (b0 + b1 * 256 + b2 * 65536 + b3 * 16777216))
+instruction_in exit _ = None
 
 abbrev pub instruction_read : Option Instruction → Result Instruction RecordFault
-instruction_read None = Err fault.Instruction
-instruction_read (Some i) = Ok i
+instruction_read i = ok_or i fault.Instruction
 
 -- Whether f holds of each number below n.
 unfoldable pub all_below : (ℕ → Bool) → ℕ → Bool
@@ -58,7 +53,7 @@ all_below f zero = true
 all_below f (suc n) = all_below f n && f n
 
 abbrev pub zeros : List ℕ → Bool
-zeros bytes = all_below (λ k. nat_eq (slice_index bytes k) 0) (length bytes)
+zeros bytes = all_below (λ k. slice_index bytes k == 0) (length bytes)
 
 -- A number of two bytes, lower byte first.
 abbrev pub two : List ℕ → ℕ → ℕ
@@ -80,21 +75,28 @@ pub record Claimed : Type 0 where
 
 -- A claim record: mark, depth, surrounding level, and places of a kind byte and a level.
 abbrev pub place_in : List ℕ → ℕ → Place
-place_in bytes i = cond (slice_index bytes (4 + 3 * i) == 0) (IntegerAt (two bytes (5 + 3 * i))) (BooleanAt (two bytes (5 + 3 * i)))
+place_in bytes i =
+    if slice_index bytes (4 + 3 * i) == 0 then IntegerAt (two bytes (5 + 3 * i))
+    else BooleanAt (two bytes (5 + 3 * i))
 
 abbrev pub stack_in : List ℕ → ℕ → List Place
 stack_in bytes depth = map (place_in bytes) (range_with_len 0 depth)
 
 abbrev pub claim_in : List ℕ → Option Claimed
-claim_in bytes = cond (slice_index bytes 0 == 0) None (Some (record { surrounding = two bytes 2; stack = stack_in bytes (slice_index bytes 1) }))
+claim_in bytes =
+    if slice_index bytes 0 == 0 then None
+    else Some (record { surrounding = two bytes 2; stack = stack_in bytes (slice_index bytes 1) })
 
 -- Whether a claim record is like its description, over a lattice of so many levels and with so many places.
 abbrev pub like_a_place : ℕ → List ℕ → ℕ → Bool
-like_a_place span bytes i = nat_le (slice_index bytes (4 + 3 * i)) 1 && nat_lt (two bytes (5 + 3 * i)) span
+like_a_place span bytes i =
+    nat_le (slice_index bytes (4 + 3 * i)) 1 && nat_lt (two bytes (5 + 3 * i)) span
 
 abbrev pub like_a_claim : ℕ → ℕ → List ℕ → Bool
 like_a_claim span places bytes =
-    cond (slice_index bytes 0 == 0) (zeros bytes)
-    (slice_index bytes 0 == 1
-    && (nat_le (slice_index bytes 1) places
-    && (nat_lt (two bytes 2) span && (all_below (like_a_place span bytes) (slice_index bytes 1) && zeros (drop (4 + 3 * slice_index bytes 1) bytes)))))
+    let depth : ℕ = slice_index bytes 1 in
+    if slice_index bytes 0 == 0 then zeros bytes
+    else slice_index bytes 0 == 1
+    && (nat_le depth places
+    && (nat_lt (two bytes 2) span
+    && (all_below (like_a_place span bytes) depth && zeros (drop (4 + 3 * depth) bytes))))

@@ -1,4 +1,4 @@
-ghost use Rattle.std.specs.Prelude.{◌≡◌, IfSome, ◌+◌, ◌*◌, cond, slice_index, slice_index_or};
+ghost use Rattle.std.specs.Prelude.{◌≡◌, IfSome, ◌+◌, ◌*◌, if◌then◌else◌, slice_index, slice_index_or};
 ghost use Rattle.job.specs.Faults.{record_answer};
 ghost use Rattle.job.specs.Layout.{claim_place, claim_record};
 ghost use Rattle.job.specs.Records.{all_below, two, like_a_place, like_a_claim, claim_in, place_in, kind as kind_of, level as level_of};
@@ -21,7 +21,7 @@ pub struct Claim {
     pub record_place: usize,
 }
 
-/// A claimed stack place: a kind and a level, which is any code in a record that has not been checked.
+/// A claimed stack place: a kind and a level. In a record that has not been checked the level is any number of two bytes.
 #[derive(Clone, Copy, PartialEq, Eq, Debug)]
 pub enum Place {
     /// An integer of this level.
@@ -33,7 +33,7 @@ pub enum Place {
 impl Place {
     /// What the place holds.
     pub fn kind(self) -> Kind
-        ensures { result ≡ kind_of self }
+        ensures is_its_kind { result ≡ kind_of self }
     {
         match self {
             Place::IntegerAt(_) => Kind::Integer,
@@ -43,7 +43,7 @@ impl Place {
 
     /// The level of what it holds.
     pub fn level(self) -> u16
-        ensures { result ≡ level_of self }
+        ensures is_its_level { result ≡ level_of self }
     {
         match self {
             Place::IntegerAt(level) | Place::BooleanAt(level) => level,
@@ -105,7 +105,9 @@ fn is_claim(span: u32, places: u8, record: &[u8]) -> bool
 impl Job<'_> {
     /// Sees that a label's claim record is like its description, over a lattice of so many levels.
     pub fn check_claim_record(&self, span: u32, label: u16) -> Result<(), RecordFault>
-        ensures { record_answer result ≡ cond (like_a_claim span (sizes self.now).places (claim_record self.now.bytes.now (sizes self.now) label)) 0 9 }
+        ensures accepts_exactly_records_like_a_claim { record_answer result
+            ≡ (if like_a_claim span (sizes self.now).places
+            (claim_record self.now.bytes.now (sizes self.now) label) then 0 else 9) }
     {
         let (_, record) = self.claim_record(label);
         if is_claim(span, self.places, record) {
@@ -117,8 +119,9 @@ impl Job<'_> {
 
     /// The claim of a label, if it has one.
     pub fn claim(&self, label: u16) -> Option<Claim>
-        ensures claim { claimed self.now result ≡ claim_in (claim_record self.now.bytes.now (sizes self.now) label) }
-        ensures record_place { IfSome result (λ c. c.record_place ≡ claim_place (sizes self.now) label) }
+        ensures claim_is_what_the_record_says { claimed self.now result
+            ≡ claim_in (claim_record self.now.bytes.now (sizes self.now) label) }
+        ensures claim_holds_the_records_place { IfSome result (λ c. c.record_place ≡ claim_place (sizes self.now) label) }
     {
         let (record_place, record) = self.claim_record(label);
         match byte(record, 0) {
@@ -134,7 +137,7 @@ impl Job<'_> {
     /// A stack place of a claim of this job, the top being 0; an integer of level 0 at the claim's depth and past it.
     #[tactic(auto, using(crate::proofs::Stacks::stack_within, crate::proofs::Stacks::stack_past))]
     pub fn stack_place(&self, claim: Claim, place: u16) -> Place
-        ensures { result ≡ slice_index_or (claim_says self.now claim).stack place (IntegerAt 0) }
+        ensures place_is_what_the_claim_says { result ≡ slice_index_or (claim_says self.now claim).stack place (IntegerAt 0) }
     {
         if place < u16::from(claim.depth) {
             place_in(self.record_at(claim.record_place), place)

@@ -54,7 +54,9 @@ fn instruction_in(exit: u8, record: &[u8]) -> Result<Instruction, RecordFault>
 impl Job<'_> {
     /// The instruction at a label, or the fault of a record that is unlike its description.
     pub fn instruction(&self, label: u16) -> Result<Instruction, RecordFault>
-        ensures { result ≡ instruction_read (instruction_in (sizes self.now).instructions (instruction_record self.now.bytes.now label)) }
+        ensures instruction_is_what_the_record_says { result
+            ≡ instruction_read (instruction_in (sizes self.now).instructions
+            (instruction_record self.now.bytes.now label)) }
     {
         let (_, record) = self.instruction_record(label);
         instruction_in(self.instructions, record)

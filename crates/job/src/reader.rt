@@ -6,7 +6,8 @@ use crate::fault::ReadFault;
 use crate::part::part;
 use push::{INSTRUCTIONS, STACK_PLACES};
 
-/// A job over the caller's bytes, with the two sizes that it opens with.
+/// A job over the caller's bytes, with the two sizes that it opens with: the number of its instructions, and that of the
+/// stack places of each claim record. Labels are asked of it from 0 up; at the exit and past it a record is short or empty.
 #[derive(Clone, Copy)]
 pub struct Job<'a> {
     pub(crate) bytes: &'a [u8],
@@ -17,8 +18,8 @@ pub struct Job<'a> {
 impl<'a> Job<'a> {
     /// Reads a job's opening, and sees that the bytes are as many as it says.
     pub fn read(bytes: &'a [u8]) -> Result<Job<'a>, ReadFault>
-        ensures sizes { sizes_read result ≡ opening bytes.now }
-        ensures bytes { IfOk result (λ j. j.bytes.now ≡ bytes.now) }
+        ensures sizes_are_what_the_opening_says { sizes_read result ≡ opening bytes.now }
+        ensures job_is_over_these_bytes { IfOk result (λ j. j.bytes.now ≡ bytes.now) }
     {
         let [n0, n1, d0, d1, rest @ ..] = bytes else {
             return Err(ReadFault::TooShort);
@@ -43,16 +44,16 @@ impl<'a> Job<'a> {
 
     /// How many instructions there are, 0 to 128 of a job that was read; this is the exit's label.
     pub fn exit(&self) -> u16
-        ensures value { result ≡ (sizes self.now).instructions }
-        ensures bound { result < 256 }
+        ensures is_the_number_of_instructions { result ≡ (sizes self.now).instructions }
+        ensures fits_a_byte { result < 256 }
     {
         u16::from(self.instructions)
     }
 
     /// The instruction record of a label, six bytes, with its byte place; as much of it as the job has.
     pub fn instruction_record(&self, label: u16) -> (usize, &'a [u8])
-        ensures place { result.0 ≡ instruction_place label }
-        ensures bytes { result.1.now ≡ instruction_record self.now.bytes.now label }
+        ensures place_is_the_records { result.0 ≡ instruction_place label }
+        ensures bytes_are_the_records { result.1.now ≡ instruction_record self.now.bytes.now label }
     {
         let at = 4 + 6 * usize::from(label);
         (at, part(self.bytes, at, 6))
@@ -60,8 +61,8 @@ impl<'a> Job<'a> {
 
     /// The claim record of a label, with its byte place; as much of it as the job has.
     pub fn claim_record(&self, label: u16) -> (usize, &'a [u8])
-        ensures place { result.0 ≡ claim_place (sizes self.now) label }
-        ensures bytes { result.1.now ≡ claim_record self.now.bytes.now (sizes self.now) label }
+        ensures place_is_the_records { result.0 ≡ claim_place (sizes self.now) label }
+        ensures bytes_are_the_records { result.1.now ≡ claim_record self.now.bytes.now (sizes self.now) label }
     {
         let at = 4 + 6 * usize::from(self.instructions) + usize::from(label) * self.claim_length();
         (at, self.record_at(at))

@@ -22,7 +22,7 @@ loop-label-preserved c =
     let i = c.in_ok-instruction.instruction in
     let told : Ok i ≡ instruction_read (instruction_at bytes s n) = search (rules, c.map_err.ensures.cases, c.in_ok-instruction.was) in
     let read = was_read (instruction_at bytes s n) i told in
-    let few : length before < 128 = omega (arith, c.loop-label.invariant.2, c.exit-label-end.ensures.value, c.requires) in
+    let few : length before < 128 = omega (arith, c.loop-label.invariant.2, c.exit-label-end.ensures.is_the_number_of_instructions, c.requires) in
     let added : c.add.new.self ≡ before ++ (i ∷ []) =
     c.add.ensures.after ∙ ap (λ b. cond b (before ++ (i ∷ [])) before) (c.add.ensures.room ∙ lt-ltb (length before) 128 few) in (
       first_more (instruction_rule bytes s) n c.loop-label.invariant.0 (ap unlike_instruction read),
@@ -38,4 +38,4 @@ returns-in_err-instruction-clause-verdict c =
     let n = c.loop-label.label-counter in
     let p = err_from_is_err_and c.from_residual.result c.from_residual.ensures.1 in
     let of = of_record c.instruction.result c.map_err.result c.in_err-instruction.field-0.0 n c.map_err.ensures.cases c.in_err-instruction.was (λ fault g k. search rules) in
-    rw (p.1, p.2, of.2) (first_found (instruction_rule bytes s) n s.instructions _ c.loop-label.invariant.0 (not_read (instruction_at bytes s n) of.0 (of.1 ∙ c.instruction.ensures)) (record_is_some of.0) (omega (arith, c.exit-label-end.ensures.value)))
+    rw (p.1, p.2, of.2) (first_found (instruction_rule bytes s) n s.instructions _ c.loop-label.invariant.0 (not_read (instruction_at bytes s n) of.0 (of.1 ∙ c.instruction.ensures.instruction_is_what_the_record_says)) (record_is_some of.0) (omega (arith, c.exit-label-end.ensures.is_the_number_of_instructions)))
