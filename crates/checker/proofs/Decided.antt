@@ -1,5 +1,6 @@
 -- Each rule's test decides the relation that the rule names. Assumes nothing.
 use Rattle.std.proofs.Common.{◌≡◌, ℕ, ◌+◌, ◌-◌, ◌≤◌, Bool, true, false, not, ◌||◌, eqb, leb, List, [], ◌∷◌, ◌++◌, map, length, get_or, Some, None, Decides, Option, sym, refl, ap, ◌∙◌, subst, ⊎_elim, arith, length-append}
+use Rattle.std.specs.List.{list_all}
 use Rattle.std.specs.Option.{option_to_list}
 use Rattle.std.proofs.lemmas.Bool.{and_parts, and_from, leb-true, le-leb, eq-eqb, ne_eqb, cases_Bool, cases_eq, cond-true, cond-false, false≢true, false_from_ne_true}
 use Rattle.lattice.specs.Order.{Order}
@@ -13,10 +14,10 @@ use Rattle.job.specs.declared.claim.Place.TheVariants.{IntegerAt, BooleanAt}
 use Rattle.job.specs.Records.{Claimed, kind}
 use Rattle.job.proofs.AllBelow.{all_below_holds, all_below_from}
 use Rattle.checker.specs.Leaving.{joined_one, leaves, level_at, all_fit_under}
-use Rattle.checker.specs.Rules.{ProgramWithClaims, exit, is_empty, claim_takes, takes, all_take, fits_its_stack, stores_upward, successors_take}
+use Rattle.checker.specs.Rules.{ProgramWithClaims, exit, is_empty, claim_takes, takes, fits_its_stack, stores_upward, successors_take}
 use Rattle.checker.specs.Region.{Among, here, there, Region, region}
 use Rattle.checker.proofs.RegionSet.{nothing, marks_are_region, region_is_marked}
-use Rattle.checker.specs.Verdict.{claim_at_least, is_clear, marked_at_least}
+use Rattle.checker.specs.Verdict.{claim_at_least, is_surrounded_if_marked, marked_at_least}
 use Rattle.checker.specs.WellClaimed.{FitsItsStack, StoresUpward, Under, none, integer, boolean, Takes, at_exit, by_claim, SuccessorsTake, AvoidsExit, Surrounded, RegionRaised}
 
 -- a stack of kinds that begins with some is those and a rest
@@ -99,15 +100,15 @@ module _ (o : Order) (job : ProgramWithClaims) (stack : List Place) where
   takes_it label (by_claim ne has u) =
       cond-false (eqb label (exit job)) (is_empty stack) (claim_takes o stack (job.claim label)) (ne_eqb label (exit job) ne) ∙ ap (claim_takes o stack) has ∙ under_fits o u
 
-  all_taken : (labels : List ℕ) → all_take o job stack labels ≡ true → (next : ℕ) → Among next labels → Takes o job stack next
+  all_taken : (labels : List ℕ) → list_all (takes o job stack) labels ≡ true → (next : ℕ) → Among next labels → Takes o job stack next
   all_taken [] h next a = absurd (nothing next a)
   all_taken (x ∷ labels) h next a =
-      let p = and_parts (takes o job stack x) (all_take o job stack labels) h in
+      let p = and_parts (takes o job stack x) (list_all (takes o job stack) labels) h in
       among_cases (λ n. Takes o job stack n) x labels next a (taken x p.0) (λ b. all_taken labels p.1 next b)
 
-  all_take_it : (labels : List ℕ) → ((next : ℕ) → Among next labels → Takes o job stack next) → all_take o job stack labels ≡ true
+  all_take_it : (labels : List ℕ) → ((next : ℕ) → Among next labels → Takes o job stack next) → list_all (takes o job stack) labels ≡ true
   all_take_it [] k = refl
-  all_take_it (x ∷ labels) k = and_from (takes o job stack x) (all_take o job stack labels) (takes_it x (k x here)) (all_take_it labels (λ n a. k n (there a)))
+  all_take_it (x ∷ labels) k = and_from (takes o job stack x) (list_all (takes o job stack) labels) (takes_it x (k x here)) (all_take_it labels (λ n a. k n (there a)))
 
 pub decides_successors : (o : Order) (levels : List ℕ) (job : ProgramWithClaims) (label : ℕ) (c : Claimed) (i : Instruction) → Decides (successors_take o levels job label c i) (SuccessorsTake o levels job label c i)
 decides_successors o levels job label c i = (all_taken o job (leaves o levels c i) (successors i label), all_take_it o job (leaves o levels c i) (successors i label))
@@ -138,12 +139,12 @@ module _ (o : Order) (job : ProgramWithClaims) (few : exit job ≤ 128) (label :
   raised_all h m' j' inside e r within =
       let same : j ≡ j' = cc in
       let marked : get_or marks inside false ≡ true = region_is_marked job.code j label few (omega arith) (subst (λ q. Region job.code q label inside) (sym same) r) in
-      let clear = all_below_holds (is_clear o job (level_at c.stack 0) marks) (exit job) h inside within in
+      let clear = all_below_holds (is_surrounded_if_marked o job (level_at c.stack 0) marks) (exit job) h inside within in
       surrounded o job (level_at c.stack 0) inside (sym (ap (λ b. not b || claim_at_least o (level_at c.stack 0) (job.claim inside)) marked) ∙ clear)
 
   pub all_raised : RegionRaised o job label c (GotoF m j) → marked_at_least o job (level_at c.stack 0) marks ≡ true
   all_raised k =
-      all_below_from (is_clear o job (level_at c.stack 0) marks) (exit job)
+      all_below_from (is_surrounded_if_marked o job (level_at c.stack 0) marks) (exit job)
       (λ inside within.
       ⊎_elim
       (λ (h : get_or marks inside false ≡ true).

@@ -1,6 +1,6 @@
 -- The verdict accepts exactly the jobs that decode and are well claimed, and names the first broken rule of any other.
 -- Assumes nothing.
-use Rattle.std.proofs.Common.{◌≡◌, ℕ, zero, suc, ◌+◌, ◌*◌, ◌<◌, ◌≤◌, Bool, true, false, cond, eqb, ◌≢◌, ◌⊎◌, List, [], ◌∷◌, length, get_or, Some, None, Ok, Err, Option, Result, sym, refl, ap, ◌∙◌, subst, ap₂, inl, inr, ⊎_elim, arith, length-append}
+use Rattle.std.proofs.Common.{◌≡◌, ℕ, zero, suc, ◌+◌, ◌*◌, ◌<◌, ◌≤◌, Bool, true, false, cond, not, eqb, ◌≢◌, ◌⊎◌, List, [], ◌∷◌, length, get_or, Some, None, Ok, Err, Option, Result, sym, refl, ap, ◌∙◌, subst, ap₂, inl, inr, ⊎_elim, arith, length-append}
 use Rattle.std.specs.Option.{option_to_list}
 use Rattle.std.proofs.lemmas.Bool.{eq-eqb, ne_eqb, cases_Bool, cases_eq, cond-true, cond-false, false≢true}
 use Rattle.std.proofs.lemmas.Bool.Decides.{nat_tests}
@@ -96,9 +96,12 @@ module _ (o : Order) (levels : List ℕ) (job : ProgramWithClaims) (label : ℕ)
   b3 : Bool
   b3 = successors_take o levels job label c i
 
-  chosen : (x y z : Bool) → b1 ≡ x → b2 ≡ y → b3 ≡ z → rule_at o levels job label c i ≡ cond x (cond y (cond z 0 13) 12) 11
+  chosen : (x y z : Bool) → b1 ≡ x → b2 ≡ y → b3 ≡ z → rule_at o levels job label c i ≡ cond (not x) 11 (cond (not y) 12 (cond (not z) 13 0))
   unfolding b1 b2 b3
-  chosen x y z p q r = ap (λ b. cond b (cond b2 (cond b3 0 13) 12) 11) p ∙ ap (λ b. cond x (cond b (cond b3 0 13) 12) 11) q ∙ ap (λ b. cond x (cond y (cond b 0 13) 12) 11) r
+  chosen x y z p q r =
+      ap (λ b. cond (not b) 11 (cond (not b2) 12 (cond (not b3) 13 0))) p
+      ∙ ap (λ b. cond (not x) 11 (cond (not b) 12 (cond (not b3) 13 0))) q
+      ∙ ap (λ b. cond (not x) 11 (cond (not y) 12 (cond (not b) 13 0))) r
 
   -- the label keeps the rules, or breaks the one whose number it has
   pub label_judged : (LabelKept o levels job label c i × (rule_at o levels job label c i ≡ 0)) ⊎ (LabelBreaks o levels job label c i (rule_at o levels job label c i) × (rule_at o levels job label c i ≢ 0))
@@ -150,14 +153,14 @@ module _ (o : Order) (job : ProgramWithClaims) (label : ℕ) (c : Claimed) where
       let high = marked_at_least o job (level_at c.stack 0) table in
       ⊎_elim
       (λ (p : in_exit ≡ true).
-      let e : branch_at o job label c (GotoF t j) ≡ 14 = cond-true in_exit 14 (cond high 0 15) p in
+      let e : branch_at o job label c (GotoF t j) ≡ 14 = cond-true in_exit 14 (cond (not high) 15 0) p in
       inr (subst (BranchBreaks o job label c (GotoF t j)) (sym e) (exit_inside (λ k. false≢true (sym (exit_unmarked o job few label c t j k) ∙ p))), λ z. no_ten 13 (sym e ∙ z)))
       (λ (p : in_exit ≡ false).
       let off = avoids o job few label c t j p in
       ⊎_elim
-      (λ (q : high ≡ true). inl (record { avoids = off; raised = raised_all o job few label c t j q }, cond-false in_exit 14 (cond high 0 15) p ∙ cond-true high 0 15 q))
+      (λ (q : high ≡ true). inl (record { avoids = off; raised = raised_all o job few label c t j q }, cond-false in_exit 14 (cond (not high) 15 0) p ∙ cond-false (not high) 15 0 (ap not q)))
       (λ (q : high ≡ false).
-      let e : branch_at o job label c (GotoF t j) ≡ 15 = cond-false in_exit 14 (cond high 0 15) p ∙ cond-false high 0 15 q in
+      let e : branch_at o job label c (GotoF t j) ≡ 15 = cond-false in_exit 14 (cond (not high) 15 0) p ∙ cond-true (not high) 15 0 (ap not q) in
       inr (subst (BranchBreaks o job label c (GotoF t j)) (sym e) (too_low off (λ k. false≢true (sym q ∙ all_raised o job few label c t j k))), λ z. no_ten 14 (sym e ∙ z)))
       (cases_Bool high))
       (cases_Bool in_exit)

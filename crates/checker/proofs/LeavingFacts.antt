@@ -11,10 +11,10 @@ use Rattle.push.specs.declared.instruction.Instruction.TheVariants.{Load, Store,
 use Rattle.push.specs.Language.{pops, pushes}
 use Rattle.job.specs.declared.claim.Place.{Place}
 use Rattle.job.specs.Records.{Claimed}
-use Rattle.checker.specs.Leaving.{pushed, leaves, fits_under, all_fit_under}
+use Rattle.checker.specs.Leaving.{pushed_place, leaves, fits_under, all_fit_under}
 
 -- A place is pushed where the language's table says that a kind is.
-pushed_as_listed : (o : Order) (levels : List ℕ) (c : Claimed) (i : Instruction) → length (option_to_list (pushed o levels c i)) ≡ length (option_to_list (pushes i))
+pushed_as_listed : (o : Order) (levels : List ℕ) (c : Claimed) (i : Instruction) → length (option_to_list (pushed_place o levels c i)) ≡ length (option_to_list (pushes i))
 pushed_as_listed o levels c (Load v) = refl
 pushed_as_listed o levels c (Store v) = refl
 pushed_as_listed o levels c (Push x) = refl

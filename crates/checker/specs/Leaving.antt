@@ -20,17 +20,15 @@ abbrev pub joined_one : Order → Claimed → ℕ
 joined_one o c = o.join (level_at c.stack 0) c.surrounding
 
 -- The place that an instruction pushes, where the variables have these levels.
-abbrev pub pushed : Order → List ℕ → Claimed → Instruction → Option Place
-pushed o levels c (Load v) = Some (IntegerAt (o.join (slice_index levels v) c.surrounding))
-pushed o levels c (Store _) = None
-pushed o levels c (Push _) = Some (IntegerAt c.surrounding)
-pushed o levels c Add = Some (IntegerAt (joined_two o c))
-pushed o levels c Sub = Some (IntegerAt (joined_two o c))
-pushed o levels c Eq = Some (BooleanAt (joined_two o c))
-pushed o levels c Less = Some (BooleanAt (joined_two o c))
-pushed o levels c Not = Some (BooleanAt (joined_one o c))
-pushed o levels c (Goto _) = None
-pushed o levels c (GotoF _ _) = None
+abbrev pub pushed_place : Order → List ℕ → Claimed → Instruction → Option Place
+pushed_place o levels c (Load v) = Some (IntegerAt (o.join (slice_index levels v) c.surrounding))
+pushed_place o levels c (Push _) = Some (IntegerAt c.surrounding)
+pushed_place o levels c Add = Some (IntegerAt (joined_two o c))
+pushed_place o levels c Sub = Some (IntegerAt (joined_two o c))
+pushed_place o levels c Eq = Some (BooleanAt (joined_two o c))
+pushed_place o levels c Less = Some (BooleanAt (joined_two o c))
+pushed_place o levels c Not = Some (BooleanAt (joined_one o c))
+pushed_place o levels c _ = None
 
 -- A branch raises the places that it leaves by the level of the boolean that it pops.
 abbrev pub raised_to : Order → ℕ → Place → Place
@@ -38,29 +36,21 @@ raised_to o g (IntegerAt l) = IntegerAt (o.join g l)
 raised_to o g (BooleanAt l) = BooleanAt (o.join g l)
 
 abbrev pub raised : Order → Claimed → Instruction → Place → Place
-raised o c (Load _) p = p
-raised o c (Store _) p = p
-raised o c (Push _) p = p
-raised o c Add p = p
-raised o c Sub p = p
-raised o c Eq p = p
-raised o c Less p = p
-raised o c Not p = p
-raised o c (Goto _) p = p
 raised o c (GotoF _ _) p = raised_to o (level_at c.stack 0) p
+raised o c _ p = p
 
 abbrev pub leaves : Order → List ℕ → Claimed → Instruction → List Place
-leaves o levels c i = option_to_list (pushed o levels c i) ++ map (raised o c i) (drop (length (pops i)) c.stack)
+leaves o levels c i =
+    option_to_list (pushed_place o levels c i)
+    ++ map (raised o c i) (drop (length (pops i)) c.stack)
 
 -- Each leaving place has the claimed kind, and a level at most the claimed one.
 abbrev pub fits_under : Order → Place → Place → Bool
 fits_under o (IntegerAt a) (IntegerAt b) = o.at_most a b
-fits_under o (IntegerAt a) (BooleanAt b) = false
-fits_under o (BooleanAt a) (IntegerAt b) = false
 fits_under o (BooleanAt a) (BooleanAt b) = o.at_most a b
+fits_under o _ _ = false
 
 abbrev pub all_fit_under : Order → List Place → List Place → Bool
 all_fit_under o [] [] = true
-all_fit_under o [] (_ ∷ _) = false
-all_fit_under o (_ ∷ _) [] = false
 all_fit_under o (p ∷ ps) (q ∷ qs) = fits_under o p q && all_fit_under o ps qs
+all_fit_under o _ _ = false

@@ -1,5 +1,5 @@
 -- The region of a branch: as the least set that the rule names, and as a table of marks. Assumes nothing.
-use Rattle.std.specs.Prelude.{ℕ, zero, suc, ◌≤◌, Bool, true, false, cond, ◌≢◌, List, [], ◌∷◌, length, replicate, Some, None, Decides, Option, ◌==◌, slice_index_or, slice_set}
+use Rattle.std.specs.Prelude.{ℕ, zero, suc, ◌≤◌, Bool, true, false, if◌then◌else◌, ◌≢◌, ◌↔◌, IsTrue, List, [], ◌∷◌, length, replicate, Some, None, Option, ◌==◌, slice_index_or, slice_set}
 use Rattle.push.specs.declared.instruction.Instruction.{Instruction}
 use Rattle.push.specs.Code.{fetch}
 use Rattle.push.specs.Language.{successors}
@@ -19,30 +19,38 @@ pub data Among : ℕ → List ℕ → Type 0 where
 -- The least set that holds each label after the branch except the junction and, with each label, those after it except
 -- the junction.
 pub data Region (code : List Instruction) (junction branch : ℕ) : ℕ → Type 0 where
-  enter : {label : ℕ} → Among label (next_labels code branch) → label ≢ junction → Region code junction branch label
-  onward : {from label : ℕ} → Region code junction branch from → Among label (next_labels code from) → label ≢ junction → Region code junction branch label
+  enter : {label : ℕ} → Among label (next_labels code branch) → label ≢ junction →
+      Region code junction branch label
+  onward : {from label : ℕ} → Region code junction branch from →
+      Among label (next_labels code from) → label ≢ junction → Region code junction branch label
 
 -- The same set by marks at the labels 0 to 128.
 abbrev pub mark_all : ℕ → List ℕ → List Bool → List Bool
 mark_all junction [] marks = marks
-mark_all junction (label ∷ labels) marks = mark_all junction labels (cond (label == junction) marks (slice_set marks label true))
+mark_all junction (label ∷ labels) marks =
+    mark_all junction labels (if label == junction then marks else slice_set marks label true)
 
 -- Marks what comes after each marked label below n, in rising order.
 unfoldable pub spread_below : List Instruction → ℕ → ℕ → List Bool → List Bool
 spread_below code junction zero marks = marks
 spread_below code junction (suc n) marks =
     let before : List Bool = spread_below code junction n marks in
-    cond (slice_index_or before n false) (mark_all junction (next_labels code n) before) before
+    if slice_index_or before n false then mark_all junction (next_labels code n) before else before
 
 unfoldable pub spread_times : List Instruction → ℕ → ℕ → List Bool → List Bool
 spread_times code junction zero marks = marks
-spread_times code junction (suc k) marks = spread_below code junction (length code) (spread_times code junction k marks)
+spread_times code junction (suc k) marks =
+    spread_below code junction (length code) (spread_times code junction k marks)
 
 -- At most 129 rounds mark something, and none does after one that marks nothing, so 130 are enough.
 abbrev pub region : List Instruction → ℕ → ℕ → List Bool
-region code junction branch = spread_times code junction 130 (mark_all junction (next_labels code branch) (replicate 129 false))
+region code junction branch =
+    spread_times code junction 130
+    (mark_all junction (next_labels code branch) (replicate 129 false))
 
 -- Both are the same set, for every program that can be mounted.
 abbrev pub MarksAreTheRegion : Type 0
 MarksAreTheRegion =
-    (code : List Instruction) (junction branch label : ℕ) → length code ≤ 128 → label ≤ 128 → Decides (slice_index_or (region code junction branch) label false) (Region code junction branch label)
+    (code : List Instruction) (junction branch label : ℕ) → length code ≤ 128 → label ≤ 128 →
+    IsTrue (slice_index_or (region code junction branch) label false)
+    ↔ Region code junction branch label

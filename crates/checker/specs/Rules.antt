@@ -1,5 +1,6 @@
 -- The rules that the claim of a label must meet, each by a name that says what it asks. Assumes nothing.
-use Rattle.std.specs.Prelude.{ℕ, Bool, true, false, cond, ◌&&◌, List, [], ◌∷◌, map, length, Some, None, Option, ◌==◌, slice_index}
+use Rattle.std.specs.Prelude.{ℕ, Bool, true, false, if◌then◌else◌, not, List, [], ◌∷◌, map, length, Some, None, Option, ◌==◌, slice_index}
+use Rattle.std.specs.List.{list_all}
 use Rattle.lattice.specs.Order.{Order}
 use Rattle.push.specs.declared.instruction.Instruction.{Instruction}
 use Rattle.push.specs.declared.instruction.Instruction.TheVariants.{Load, Store, Push, Add, Sub, Eq, Less, Not, Goto, GotoF}
@@ -23,16 +24,8 @@ fits_its_stack c i = runs_on i (map kind c.stack)
 
 -- What is stored goes to a variable whose level is at least its own, joined with the surrounding one.
 abbrev pub stores_upward : Order → List ℕ → Claimed → Instruction → Bool
-stores_upward o levels c (Load _) = true
 stores_upward o levels c (Store v) = o.at_most (joined_one o c) (slice_index levels v)
-stores_upward o levels c (Push _) = true
-stores_upward o levels c Add = true
-stores_upward o levels c Sub = true
-stores_upward o levels c Eq = true
-stores_upward o levels c Less = true
-stores_upward o levels c Not = true
-stores_upward o levels c (Goto _) = true
-stores_upward o levels c (GotoF _ _) = true
+stores_upward o levels c _ = true
 
 -- A label takes what leaves another: the exit only an empty stack, any other by its claim.
 abbrev pub is_empty : List Place → Bool
@@ -44,25 +37,26 @@ claim_takes o stack None = false
 claim_takes o stack (Some c) = all_fit_under o stack c.stack
 
 abbrev pub takes : Order → ProgramWithClaims → List Place → ℕ → Bool
-takes o job stack label = cond (label == exit job) (is_empty stack) (claim_takes o stack (job.claim label))
-
-abbrev pub all_take : Order → ProgramWithClaims → List Place → List ℕ → Bool
-all_take o job stack [] = true
-all_take o job stack (label ∷ labels) = takes o job stack label && all_take o job stack labels
+takes o job stack label =
+    if label == exit job then is_empty stack else claim_takes o stack (job.claim label)
 
 abbrev pub successors_take : Order → List ℕ → ProgramWithClaims → ℕ → Claimed → Instruction → Bool
-successors_take o levels job label c i = all_take o job (leaves o levels c i) (successors i label)
+successors_take o levels job label c i =
+    list_all (takes o job (leaves o levels c i)) (successors i label)
 
 -- The number of the first rule that a claimed label breaks, or 0.
 abbrev pub rule_at : Order → List ℕ → ProgramWithClaims → ℕ → Claimed → Instruction → ℕ
 rule_at o levels job label c i =
-    cond (fits_its_stack c i) (cond (stores_upward o levels c i) (cond (successors_take o levels job label c i) 0 13) 12) 11
+    if not (fits_its_stack c i) then 11
+    else if not (stores_upward o levels c i) then 12
+    else if not (successors_take o levels job label c i) then 13
+    else 0
 
 -- A rule of the labels that have a claim and an instruction.
 abbrev pub where_claimed : (Claimed → Instruction → ℕ) → Option Claimed → Option Instruction → ℕ
-where_claimed rule None _ = 0
-where_claimed rule (Some c) None = 0
 where_claimed rule (Some c) (Some i) = rule c i
+where_claimed rule _ _ = 0
 
 abbrev pub label_rule : Order → List ℕ → ProgramWithClaims → ℕ → ℕ
-label_rule o levels job label = where_claimed (rule_at o levels job label) (job.claim label) (fetch job.code label)
+label_rule o levels job label =
+    where_claimed (rule_at o levels job label) (job.claim label) (fetch job.code label)

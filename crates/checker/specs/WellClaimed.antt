@@ -1,5 +1,5 @@
 -- What the claims of a job must satisfy, as relations, and what the verdict says of them. Assumes nothing.
-use Rattle.std.specs.Prelude.{◌≡◌, ℕ, ◌+◌, ◌<◌, ◌≤◌, true, ◌≢◌, ◌⊎◌, List, [], ◌∷◌, ◌++◌, map, length, Some, Ok, Err, slice_index, option_to_list}
+use Rattle.std.specs.Prelude.{◌≡◌, ℕ, ◌+◌, ◌<◌, ◌≤◌, IsTrue, ◌≢◌, ◌⊎◌, List, [], ◌∷◌, ◌++◌, map, length, Some, Ok, Err, slice_index, option_to_list}
 use Rattle.lattice.specs.Order.{Order}
 use Rattle.push.specs.declared.instruction.Instruction.{Instruction}
 use Rattle.push.specs.declared.instruction.Instruction.TheVariants.{Store, GotoF}
@@ -25,59 +25,72 @@ pub record FitsItsStack (c : Claimed) (i : Instruction) : Type 0 where
 
 -- What is stored is, joined with the surrounding level, at most the variable's level.
 abbrev pub StoresUpward : Order → List ℕ → Claimed → Instruction → Type 0
-StoresUpward o levels c i = (v : ℕ) → i ≡ Store v → o.at_most (joined_one o c) (slice_index levels v) ≡ true
+StoresUpward o levels c i =
+    (v : ℕ) → i ≡ Store v → IsTrue (o.at_most (joined_one o c) (slice_index levels v))
 
 -- Leaving places of the claimed kinds, each with a level at most the claimed one.
 pub data Under (o : Order) : List Place → List Place → Type 0 where
   none : Under o [] []
-  integer : {a b : ℕ} {ps qs : List Place} → o.at_most a b ≡ true → Under o ps qs → Under o (IntegerAt a ∷ ps) (IntegerAt b ∷ qs)
-  boolean : {a b : ℕ} {ps qs : List Place} → o.at_most a b ≡ true → Under o ps qs → Under o (BooleanAt a ∷ ps) (BooleanAt b ∷ qs)
+  integer : {a b : ℕ} {ps qs : List Place} → IsTrue (o.at_most a b) → Under o ps qs →
+      Under o (IntegerAt a ∷ ps) (IntegerAt b ∷ qs)
+  boolean : {a b : ℕ} {ps qs : List Place} → IsTrue (o.at_most a b) → Under o ps qs →
+      Under o (BooleanAt a ∷ ps) (BooleanAt b ∷ qs)
 
 -- The exit takes the empty stack, another label what lies under its claim.
 pub data Takes (o : Order) (job : ProgramWithClaims) (stack : List Place) (label : ℕ) : Type 0 where
   at_exit : label ≡ exit job → stack ≡ [] → Takes o job stack label
-  by_claim : {c : Claimed} → label ≢ exit job → job.claim label ≡ Some c → Under o stack c.stack → Takes o job stack label
+  by_claim : {c : Claimed} → label ≢ exit job → job.claim label ≡ Some c → Under o stack c.stack →
+      Takes o job stack label
 
 abbrev pub SuccessorsTake : Order → List ℕ → ProgramWithClaims → ℕ → Claimed → Instruction → Type 0
-SuccessorsTake o levels job label c i = (next : ℕ) → Among next (successors i label) → Takes o job (leaves o levels c i) next
+SuccessorsTake o levels job label c i =
+    (next : ℕ) → Among next (successors i label) → Takes o job (leaves o levels c i) next
 
 -- The region of a branch does not hold the exit, and every label in it is surrounded by a level at least that of the
 -- boolean which the branch pops.
 abbrev pub AvoidsExit : ProgramWithClaims → ℕ → Instruction → Type 0
-AvoidsExit job label i = (m j : ℕ) → i ≡ GotoF m j → Region job.code j label (exit job) → ⊥
+AvoidsExit job label i = (m j : ℕ) → i ≡ GotoF m j → ¬ (Region job.code j label (exit job))
 
 pub record Surrounded (o : Order) (job : ProgramWithClaims) (g label : ℕ) : Type 0 where
   pub claimed : Claimed
   pub has : job.claim label ≡ Some claimed
-  pub at_least : o.at_most g claimed.surrounding ≡ true
+  pub at_least : IsTrue (o.at_most g claimed.surrounding)
 
 abbrev pub RegionRaised : Order → ProgramWithClaims → ℕ → Claimed → Instruction → Type 0
 RegionRaised o job label c i =
-    (m j inside : ℕ) → i ≡ GotoF m j → Region job.code j label inside → inside < exit job → Surrounded o job (level_at c.stack 0) inside
+    (m j inside : ℕ) → i ≡ GotoF m j → Region job.code j label inside → inside < exit job →
+    Surrounded o job (level_at c.stack 0) inside
 
 -- A run begins with the empty stack at label 0.
 abbrev pub BeginsEmpty : ProgramWithClaims → Type 0
 BeginsEmpty job = (exit job ≡ 0) ⊎ ((c : Claimed) × (job.claim 0 ≡ Some c) × (c.stack ≡ []))
 
-pub record LabelKept (o : Order) (levels : List ℕ) (job : ProgramWithClaims) (label : ℕ) (c : Claimed) (i : Instruction) : Type 0 where
+pub record LabelKept (o : Order) (levels : List ℕ) (job : ProgramWithClaims)
+    (label : ℕ) (c : Claimed) (i : Instruction) : Type 0 where
   pub fits : FitsItsStack c i
   pub stores : StoresUpward o levels c i
   pub taken : SuccessorsTake o levels job label c i
 
-pub record BranchKept (o : Order) (job : ProgramWithClaims) (label : ℕ) (c : Claimed) (i : Instruction) : Type 0 where
+pub record BranchKept (o : Order) (job : ProgramWithClaims)
+    (label : ℕ) (c : Claimed) (i : Instruction) : Type 0 where
   pub avoids : AvoidsExit job label i
   pub raised : RegionRaised o job label c i
 
 -- What holds of a label with its claim and its instruction, if it has both.
 abbrev pub WhereClaimed : ProgramWithClaims → (ℕ → Claimed → Instruction → Type 0) → ℕ → Type 0
-WhereClaimed job P label = (c : Claimed) (i : Instruction) → job.claim label ≡ Some c → fetch job.code label ≡ Some i → P label c i
+WhereClaimed job P label =
+    (c : Claimed) (i : Instruction) → job.claim label ≡ Some c → fetch job.code label ≡ Some i →
+    P label c i
 
 abbrev pub Below : ℕ → (ℕ → Type 0) → Type 0
 Below n P = (label : ℕ) → label < n → P label
 
+abbrev pub LabelsKept : Order → List ℕ → ProgramWithClaims → Type 0
+LabelsKept o levels job = Below (exit job) (WhereClaimed job (LabelKept o levels job))
+
 pub record WellClaimed (o : Order) (levels : List ℕ) (job : ProgramWithClaims) : Type 0 where
   pub entry : BeginsEmpty job
-  pub labels : Below (exit job) (WhereClaimed job (LabelKept o levels job))
+  pub labels : LabelsKept o levels job
   pub branches : Below (exit job) (WhereClaimed job (BranchKept o job))
 
 -- The records of a job are like their descriptions.
@@ -86,7 +99,7 @@ pub record Says (bytes : List ℕ) (s : Sizes) (label : ℕ) : Type 0 where
   pub read : instruction_at bytes s label ≡ Some instruction
 
 abbrev pub LikeAClaim : Order → List ℕ → Sizes → ℕ → Type 0
-LikeAClaim o bytes s label = like_a_claim o.span s.places (claim_record bytes s label) ≡ true
+LikeAClaim o bytes s label = IsTrue (like_a_claim o.span s.places (claim_record bytes s label))
 
 pub record Decodes (o : Order) (bytes : List ℕ) (s : Sizes) : Type 0 where
   pub opened : opening bytes ≡ Ok s
@@ -99,16 +112,23 @@ pub record Mountable (o : Order) (levels bytes : List ℕ) : Type 0 where
   pub well_claimed : WellClaimed o levels (job_in bytes sizes)
 
 -- The number of the first rule that a claimed label, or a claimed branch, breaks.
-pub data LabelBreaks (o : Order) (levels : List ℕ) (job : ProgramWithClaims) (label : ℕ) (c : Claimed) (i : Instruction) : ℕ → Type 0 where
-  stack : (FitsItsStack c i → ⊥) → LabelBreaks o levels job label c i 11
-  store : FitsItsStack c i → (StoresUpward o levels c i → ⊥) → LabelBreaks o levels job label c i 12
-  successor : FitsItsStack c i → StoresUpward o levels c i → (SuccessorsTake o levels job label c i → ⊥) → LabelBreaks o levels job label c i 13
+pub data LabelBreaks (o : Order) (levels : List ℕ) (job : ProgramWithClaims)
+    (label : ℕ) (c : Claimed) (i : Instruction) : ℕ → Type 0 where
+  stack : ¬ (FitsItsStack c i) → LabelBreaks o levels job label c i 11
+  store : FitsItsStack c i → ¬ (StoresUpward o levels c i) → LabelBreaks o levels job label c i 12
+  successor : FitsItsStack c i → StoresUpward o levels c i →
+      ¬ (SuccessorsTake o levels job label c i) →
+      LabelBreaks o levels job label c i 13
 
-pub data BranchBreaks (o : Order) (job : ProgramWithClaims) (label : ℕ) (c : Claimed) (i : Instruction) : ℕ → Type 0 where
-  exit_inside : (AvoidsExit job label i → ⊥) → BranchBreaks o job label c i 14
-  too_low : AvoidsExit job label i → (RegionRaised o job label c i → ⊥) → BranchBreaks o job label c i 15
+pub data BranchBreaks (o : Order) (job : ProgramWithClaims)
+    (label : ℕ) (c : Claimed) (i : Instruction) : ℕ → Type 0 where
+  exit_inside : ¬ (AvoidsExit job label i) → BranchBreaks o job label c i 14
+  too_low : AvoidsExit job label i → ¬ (RegionRaised o job label c i) →
+      BranchBreaks o job label c i 15
 
-pub record BreaksAt (job : ProgramWithClaims) (P : ℕ → Claimed → Instruction → Type 0) (breaks : ℕ → Claimed → Instruction → ℕ → Type 0) (number label : ℕ) : Type 0 where
+-- At a label with a claim and an instruction a rule breaks which held at all such labels before.
+pub record BreaksAt (job : ProgramWithClaims) (P : ℕ → Claimed → Instruction → Type 0)
+    (breaks : ℕ → Claimed → Instruction → ℕ → Type 0) (number label : ℕ) : Type 0 where
   pub within : label < exit job
   pub before : Below label (WhereClaimed job P)
   pub claimed : Claimed
@@ -117,17 +137,36 @@ pub record BreaksAt (job : ProgramWithClaims) (P : ℕ → Claimed → Instructi
   pub fetched : fetch job.code label ≡ Some instruction
   pub broken : breaks label claimed instruction number
 
+abbrev pub LabelBreaksAt : Order → List ℕ → ProgramWithClaims → ℕ → ℕ → Type 0
+LabelBreaksAt o levels job number label =
+    BreaksAt job (LabelKept o levels job) (LabelBreaks o levels job) number label
+
+abbrev pub BranchBreaksAt : Order → ProgramWithClaims → ℕ → ℕ → Type 0
+BranchBreaksAt o job number label =
+    BreaksAt job (BranchKept o job) (BranchBreaks o job) number label
+
 -- The first rule that a job breaks, in the order in which the rules stand, by number and label.
 pub data FirstBroken (o : Order) (levels bytes : List ℕ) : ℕ → ℕ → Type 0 where
-  unopened : {fault : ReadFault} → opening bytes ≡ Err fault → FirstBroken o levels bytes (read_number fault) 0
-  instruction : {s : Sizes} {label : ℕ} → opening bytes ≡ Ok s → label < s.instructions → Below label (Says bytes s) → (Says bytes s label → ⊥) → FirstBroken o levels bytes 8 label
-  claim : {s : Sizes} {label : ℕ} → opening bytes ≡ Ok s → Below s.instructions (Says bytes s) → label < s.instructions → Below label (LikeAClaim o bytes s) → (LikeAClaim o bytes s label → ⊥) → FirstBroken o levels bytes 9 label
-  entry : {s : Sizes} → Decodes o bytes s → (BeginsEmpty (job_in bytes s) → ⊥) → FirstBroken o levels bytes 10 0
-  label_rule : {s : Sizes} {number label : ℕ} → Decodes o bytes s → BeginsEmpty (job_in bytes s) → BreaksAt (job_in bytes s) (LabelKept o levels (job_in bytes s)) (LabelBreaks o levels (job_in bytes s)) number label → FirstBroken o levels bytes number label
-  branch_rule : {s : Sizes} {number label : ℕ} → Decodes o bytes s → BeginsEmpty (job_in bytes s) → Below (exit (job_in bytes s)) (WhereClaimed (job_in bytes s) (LabelKept o levels (job_in bytes s))) → BreaksAt (job_in bytes s) (BranchKept o (job_in bytes s)) (BranchBreaks o (job_in bytes s)) number label → FirstBroken o levels bytes number label
+  unopened : {fault : ReadFault} → opening bytes ≡ Err fault →
+      FirstBroken o levels bytes (read_number fault) 0
+  instruction : {s : Sizes} {label : ℕ} → opening bytes ≡ Ok s →
+      label < s.instructions → Below label (Says bytes s) → ¬ (Says bytes s label) →
+      FirstBroken o levels bytes 8 label
+  claim : {s : Sizes} {label : ℕ} → opening bytes ≡ Ok s → Below s.instructions (Says bytes s) →
+      label < s.instructions → Below label (LikeAClaim o bytes s) → ¬ (LikeAClaim o bytes s label) →
+      FirstBroken o levels bytes 9 label
+  entry : {s : Sizes} → Decodes o bytes s → ¬ (BeginsEmpty (job_in bytes s)) →
+      FirstBroken o levels bytes 10 0
+  label_rule : {s : Sizes} {number label : ℕ} → Decodes o bytes s → BeginsEmpty (job_in bytes s) →
+      LabelBreaksAt o levels (job_in bytes s) number label →
+      FirstBroken o levels bytes number label
+  branch_rule : {s : Sizes} {number label : ℕ} → Decodes o bytes s → BeginsEmpty (job_in bytes s) →
+      LabelsKept o levels (job_in bytes s) → BranchBreaksAt o (job_in bytes s) number label →
+      FirstBroken o levels bytes number label
 
 -- The verdict accepts exactly the jobs that decode and are well claimed, and names the first broken rule of any other.
 pub record Judged (o : Order) (levels bytes : List ℕ) : Type 0 where
   pub accepted_is_mountable : verdict o levels bytes ≡ (0, 0) → Mountable o levels bytes
   pub mountable_is_accepted : Mountable o levels bytes → verdict o levels bytes ≡ (0, 0)
-  pub refused_names_the_first : (verdict o levels bytes ≢ (0, 0)) → FirstBroken o levels bytes (verdict o levels bytes).0 (verdict o levels bytes).1
+  pub refused_names_the_first : verdict o levels bytes ≢ (0, 0) →
+      FirstBroken o levels bytes (verdict o levels bytes).0 (verdict o levels bytes).1

@@ -1,6 +1,6 @@
 ghost use Rattle.std.specs.Prelude.{◌≡◌};
 ghost use Rattle.checker.specs.Faults.{rule_answer};
-ghost use Rattle.checker.specs.Verdict.{claim_at_least, is_clear as is_clear_of, marked_at_least as marked_at_least_of, region_rule, branch_rule, entry_rule};
+ghost use Rattle.checker.specs.Verdict.{claim_at_least, is_surrounded_if_marked as is_clear_of, marked_at_least as marked_at_least_of, region_rule, branch_rule, entry_rule};
 ghost use Rattle.checker.specs.Of.{job_of};
 
 use crate::fault::Rule;

@@ -3,7 +3,7 @@ ghost use Rattle.job.specs.declared.claim.Place.TheVariants.{IntegerAt};
 ghost use Rattle.job.specs.Of.{claim_says};
 ghost use Rattle.push.specs.Language.{begins as begins_of};
 ghost use Rattle.job.specs.Records.{kind as kind_of};
-ghost use Rattle.checker.specs.Leaving.{joined_one as joined_one_of, joined_two as joined_two_of, pushed as pushed_of, raised as raised_of, level_at, fits_under as fits_under_of, all_fit_under};
+ghost use Rattle.checker.specs.Leaving.{joined_one as joined_one_of, joined_two as joined_two_of, pushed_place as pushed_of, raised as raised_of, level_at, fits_under as fits_under_of, all_fit_under};
 ghost use Rattle.checker.specs.Rules.{fits_its_stack as fits_its_stack_of, stores_upward as stores_upward_of, takes as takes_of, successors_take as successors_take_of};
 ghost use Rattle.checker.specs.Of.{levels_of, job_of, says, leaves_of};
 

@@ -1,7 +1,7 @@
 use Rattle.std.proofs.Common.{◌≡◌, ◌+◌, ◌-◌, ◌<◌, length, get_or, sym, ap, ◌∙◌, arith}
 use Rattle.push.specs.Language.{pops}
 use Rattle.job.specs.declared.claim.Place.TheVariants.{IntegerAt}
-use Rattle.checker.specs.Leaving.{pushed, raised}
+use Rattle.checker.specs.Leaving.{pushed_place, raised}
 use Rattle.checker.specs.Of.{says, leaves_of}
 use Rattle.checker.proofs.LeavingFacts.{below_none, below_pushed}
 use Rattle.checker.proofs.leaving.Leaving.place.Goals as goal
@@ -14,7 +14,7 @@ returns g c =
     let i = self.instruction in
     let f = raised o (says self) i in
     let k = length (pops i) in
-    let p = pushed o self.rules.now.levels.now (says self) i in
+    let p = pushed_place o self.rules.now.levels.now (says self) i in
     let stack = (says self).stack in
     let h : c.args.place < length (leaves_of o self) = omega (arith, c.depth.ensures.value) in
     elim c.match-pushed.branch [

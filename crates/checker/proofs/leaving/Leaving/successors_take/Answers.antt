@@ -1,8 +1,9 @@
 use Rattle.std.proofs.Common.{rules, tests, ap, ◌∙◌}
+use Rattle.std.specs.List.{list_all}
 use Rattle.std.proofs.lemmas.Iterator.Search.{all_from_yields_List}
-use Rattle.checker.specs.Rules.{takes, all_take}
+use Rattle.checker.specs.Rules.{takes}
 use Rattle.checker.specs.Of.{job_of, leaves_of}
-use Rattle.checker.proofs.SuccessorFacts.{YieldsList-from_options, all_take_each}
+use Rattle.checker.proofs.SuccessorFacts.{YieldsList-from_options}
 use Rattle.checker.proofs.leaving.Leaving.successors_take.Goals as goal
 
 pub returns : goal.returns
@@ -13,4 +14,4 @@ returns g c =
     let stack = leaves_of o self in
     all_from_yields_List (takes o job stack) c.all.new.self _ c.all.result c.all.ensures.ran
     (YieldsList-from_options c.successors.result (cc) (cc) (cc) (cc) (λ x j b. b.0)) (λ x b q k. search (rules, tests))
-    ∙ all_take_each o job stack _ ∙ ap (all_take o job stack) c.successors.ensures
+    ∙ ap (list_all (takes o job stack)) c.successors.ensures
