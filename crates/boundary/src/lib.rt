@@ -11,9 +11,9 @@ use lattice::Ladder;
 use push::{Program, Run, VARIABLES};
 
 // The verdict over a ladder of 16 with every variable at level 0, and the program where it is accepted.
-fn judge(job: &[u8]) -> Result<Program, MountFault>
-    ensures verdict { mount_answer_of result ≡ verdict_on job.now }
-    ensures program { IfOk result (λ p. p ≡ code_in job.now) }
+fn check_over_ladder(job: &[u8]) -> Result<Program, MountFault>
+    ensures answers_the_verdict { mount_answer_of result ≡ verdict_on job.now }
+    ensures program_is_what_the_bytes_say { IfOk result (λ p. p ≡ code_in job.now) }
 {
     check(&Ladder::new(16), &[0; VARIABLES], job)
 }
@@ -30,9 +30,9 @@ fn run_from_zeros(program: Program, budget: u32) -> u64
 // The verdict on a job, over a ladder of 16 with every variable at level 0: number × 65,536 + label, and 0 if accepted.
 #[unsafe(no_mangle)]
 pub extern "C" fn nextabur_mount(job: &[u8]) -> u32
-    ensures { result ≡ mount_number (verdict_on job.now) }
+    ensures answers_the_verdict { result ≡ mount_number (verdict_on job.now) }
 {
-    let (number, label) = mount_answer(&judge(job));
+    let (number, label) = mount_answer(&check_over_ladder(job));
     u32::from(number) * 0x1_0000 + u32::from(label)
 }
 
@@ -40,7 +40,7 @@ pub extern "C" fn nextabur_mount(job: &[u8]) -> u32
 // For a refused job 3 × 2^32.
 #[unsafe(no_mangle)]
 pub extern "C" fn nextabur_run(job: &[u8], budget: u32) -> u64
-    ensures { result ≡ run_number job.now budget }
+    ensures answers_the_end_of_the_run { result ≡ run_number job.now budget }
 {
-    judge(job).map_or(3 * 0x1_0000_0000, |program| run_from_zeros(program, budget))
+    check_over_ladder(job).map_or(3 * 0x1_0000_0000, |program| run_from_zeros(program, budget))
 }

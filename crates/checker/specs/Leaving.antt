@@ -2,7 +2,7 @@
 use Rattle.std.specs.Prelude.{ℕ, Bool, true, false, ◌&&◌, List, [], ◌∷◌, ◌++◌, map, length, drop, Some, None, Option, slice_index, slice_index_or, option_to_list}
 use Rattle.lattice.specs.Order.{Order}
 use Rattle.push.specs.declared.instruction.Instruction.{Instruction}
-use Rattle.push.specs.declared.instruction.Instruction.TheVariants.{Load, Store, Push, Add, Sub, Eq, Less, Not, Goto, GotoF}
+use Rattle.push.specs.declared.instruction.Instruction.TheVariants.{Load, Push, Add, Sub, Eq, Less, Not, GotoF}
 use Rattle.push.specs.Language.{pops}
 use Rattle.job.specs.declared.claim.Place.{Place}
 use Rattle.job.specs.declared.claim.Place.TheVariants.{IntegerAt, BooleanAt}

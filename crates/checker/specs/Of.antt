@@ -1,33 +1,29 @@
--- The job and the lattice that the checker's rules stand on. Assumes nothing.
-use Rattle.std.specs.Prelude.{◌≡◌, ℕ, ◌<◌, cond, List, Result, ◌==◌}
+-- What the checks of a job and of a label stand on, in the rules' terms. Assumes nothing.
+use Rattle.std.specs.Prelude.{ℕ, List}
 use Rattle.job.specs.Records.{Claimed}
 use Rattle.job.specs.Of.{sizes, claim_says}
 use Rattle.job.specs.declared.claim.Place.{Place}
 use Rattle.lattice.specs.Order.{Order}
-use Rattle.checker.specs.declared.fault.MountFault.{MountFault}
-use Rattle.checker.specs.declared.leaving.Leaving.{Leaving}
-use Rattle.checker.specs.declared.rules.Rules.{Rules}
-use Rattle.checker.specs.Faults.{mount_answer}
+use Rattle.checker.specs.declared.job_check.JobCheck.{JobCheck}
+use Rattle.checker.specs.declared.label_check.LabelCheck.{LabelCheck}
 use Rattle.checker.specs.Leaving.{leaves}
-use Rattle.checker.specs.Verdict.{claimed_job, first_below}
+use Rattle.checker.specs.Verdict.{claimed_job}
 use Rattle.checker.specs.Rules.{ProgramWithClaims}
 
-abbrev pub levels_of : {L : Type 0} → Rules L → List ℕ
-levels_of r = r.levels.now
+abbrev pub levels_of : {L : Type 0} → JobCheck L → List ℕ
+levels_of check = check.levels.now
 
-abbrev pub job_of : {L : Type 0} → Rules L → ProgramWithClaims
-job_of r = claimed_job r.program.now r.job.bytes.now (sizes r.job)
+abbrev pub job_of : {L : Type 0} → JobCheck L → ProgramWithClaims
+job_of check = claimed_job check.program.now check.job.bytes.now (sizes check.job)
 
--- What a claimed label claims, and what leaves it.
-abbrev pub says : {L : Type 0} → Leaving L → Claimed
-says l = claim_says l.rules.now.job l.claim
+-- The order over which a label is checked, what it claims, and what leaves it.
+abbrev pub order_of : {L : Type 0} → (L → Order) → LabelCheck L → Order
+order_of order label_check = order label_check.check.now.lattice.now
 
-abbrev pub leaves_of : {L : Type 0} → Order → Leaving L → List Place
-leaves_of o l = leaves o (levels_of l.rules.now) (says l) l.instruction
+abbrev pub claimed_of : {L : Type 0} → LabelCheck L → Claimed
+claimed_of label_check = claim_says label_check.check.now.job label_check.claim
 
--- What the checks of the labels below an end find where each check answers by a rule.
-abbrev pub AnswersBy : (ℕ → Result (Unit {0}) MountFault → Type 0) → (ℕ → ℕ) → ℕ → Type 0
-AnswersBy checked rule end = (label : ℕ) (answer : Result (Unit {0}) MountFault) → label < end → checked label answer → mount_answer answer ≡ cond (rule label == 0) (0, 0) (rule label, label)
-
-abbrev pub FindsFirstFault : (ℕ → Result (Unit {0}) MountFault → Type 0) → ℕ → Result (Unit {0}) MountFault → Type 0
-FindsFirstFault checked end found = (rule : ℕ → ℕ) → AnswersBy checked rule end → mount_answer found ≡ first_below rule end
+abbrev pub leaves_of : {L : Type 0} → (L → Order) → LabelCheck L → List Place
+leaves_of order label_check =
+    leaves (order_of order label_check) (levels_of label_check.check.now)
+    (claimed_of label_check) label_check.instruction

@@ -2,7 +2,7 @@
 use Rattle.std.specs.Prelude.{ℕ, zero, suc, Bool, false, if◌then◌else◌, not, ◌||◌, List, [], ◌++◌, Some, None, Ok, Err, Option, Result, ◌==◌, slice_index_or, option_to_list}
 use Rattle.lattice.specs.Order.{Order}
 use Rattle.push.specs.declared.instruction.Instruction.{Instruction}
-use Rattle.push.specs.declared.instruction.Instruction.TheVariants.{Load, Store, Push, Add, Sub, Eq, Less, Not, Goto, GotoF}
+use Rattle.push.specs.declared.instruction.Instruction.TheVariants.{GotoF}
 use Rattle.push.specs.Code.{fetch}
 use Rattle.job.specs.declared.fault.ReadFault.{ReadFault}
 use Rattle.job.specs.Faults.{read_number}

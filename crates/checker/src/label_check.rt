@@ -1,0 +1,249 @@
+ghost use Rattle.std.specs.Prelude.{◌≡◌, ◌≤◌, length, map, slice_index, slice_index_or};
+ghost use Rattle.job.specs.declared.claim.Place.TheVariants.{IntegerAt};
+ghost use Rattle.job.specs.Of.{claim_says};
+ghost use Rattle.push.specs.Language.{begins as begins_of};
+ghost use Rattle.job.specs.Records.{kind as kind_of};
+ghost use Rattle.checker.specs.Faults.{rule_answer};
+ghost use Rattle.checker.specs.Leaving.{joined_one as joined_one_of, joined_two as joined_two_of, pushed_place as pushed_place_of, raised as raised_of, level_at, fits_under as fits_under_of, all_fit_under};
+ghost use Rattle.checker.specs.Rules.{fits_its_stack as fits_its_stack_of, stores_upward as stores_upward_of, takes as takes_of, successors_take as successors_take_of, label_rule};
+
+use crate::fault::Rule;
+use crate::job_check::JobCheck;
+use job::{Claim, Place};
+use lattice::Lattice;
+use push::{Instruction, Kind, STACK_PLACES};
+
+// A label under check: its claim and its instruction, in a job. From these it follows what leaves the label, and whether
+// the label may have such a claim.
+#[derive(Drop)]
+struct LabelCheck<'a, L> {
+    check: &'a JobCheck<'a, L>,
+    claim: Claim,
+    instruction: Instruction,
+}
+
+impl<L: Lattice> LabelCheck<'_, L> {
+    ghost use Rattle.checker.specs.Of.{levels_of, job_of, order_of, claimed_of, leaves_of};
+
+    // The level of a variable; 0 for one that there is not.
+    fn variable_level(&self, variable: u8) -> u16
+        ensures { result ≡ slice_index (levels_of self.now.check.now) variable }
+    {
+        self.check
+            .levels
+            .get(usize::from(variable))
+            .copied()
+            .unwrap_or(0)
+    }
+
+    // A claimed stack place, the top being 0; an integer of level 0 below the bottom.
+    fn claimed_place(&self, place: u16) -> Place
+        ensures { result ≡ slice_index_or (claimed_of self.now).stack place (IntegerAt 0) }
+    {
+        self.check.job.stack_place(self.claim, place)
+    }
+
+    // The level of a claimed stack place.
+    fn level_at(&self, place: u16) -> u16
+        ensures { result ≡ level_at (claimed_of self.now).stack place }
+    {
+        self.claimed_place(place).level()
+    }
+
+    // The level of a result of one operand.
+    fn joined_one(&self) -> u16
+        ensures { result ≡ joined_one_of (order_of L.Lattice.order self.now) (claimed_of self.now) }
+    {
+        let operand = self.level_at(0);
+        self.check.lattice.join(operand, self.claim.surrounding)
+    }
+
+    // The level of a result of two operands.
+    fn joined_two(&self) -> u16
+        ensures { result ≡ joined_two_of (order_of L.Lattice.order self.now) (claimed_of self.now) }
+    {
+        let operands = self.check.lattice.join(self.level_at(0), self.level_at(1));
+        self.check.lattice.join(operands, self.claim.surrounding)
+    }
+
+    // The place that the instruction pushes.
+    fn pushed_place(&self) -> Option<Place>
+        ensures { result
+            ≡ pushed_place_of (order_of L.Lattice.order self.now) (levels_of self.now.check.now)
+            (claimed_of self.now) self.now.instruction }
+    {
+        match self.instruction {
+            Instruction::Load(variable) => {
+                let level = self.variable_level(variable);
+                let joined = self.check.lattice.join(level, self.claim.surrounding);
+                Some(Place::IntegerAt(joined))
+            }
+            Instruction::Push(_) => Some(Place::IntegerAt(self.claim.surrounding)),
+            Instruction::Add | Instruction::Sub => Some(Place::IntegerAt(self.joined_two())),
+            Instruction::Eq | Instruction::Less => Some(Place::BooleanAt(self.joined_two())),
+            Instruction::Not => Some(Place::BooleanAt(self.joined_one())),
+            Instruction::Store(_) | Instruction::Goto(_) | Instruction::GotoF { .. } => None,
+        }
+    }
+
+    // What becomes of a place that the instruction leaves: a branch raises it by the level of the boolean that it pops.
+    fn raised(&self, place: Place) -> Place
+        ensures { result
+            ≡ raised_of (order_of L.Lattice.order self.now) (claimed_of self.now)
+            self.now.instruction place }
+    {
+        let Instruction::GotoF { .. } = self.instruction else {
+            return place;
+        };
+        let guard = self.level_at(0);
+        match place {
+            Place::IntegerAt(level) => Place::IntegerAt(self.check.lattice.join(guard, level)),
+            Place::BooleanAt(level) => Place::BooleanAt(self.check.lattice.join(guard, level)),
+        }
+    }
+
+    // How many places leave.
+    fn depth(&self) -> u16
+        ensures value { result ≡ length (leaves_of L.Lattice.order self.now) }
+        ensures bound { result ≤ 256 }
+    {
+        let left = u16::from(self.claim.depth).saturating_sub(self.instruction.popped());
+        left + u16::from(self.instruction.pushes().is_some())
+    }
+
+    // A place that leaves, the top being 0; an integer of level 0 below the bottom.
+    fn place(&self, place: u16) -> Place
+        ensures { result ≡ slice_index_or (leaves_of L.Lattice.order self.now) place (IntegerAt 0) }
+    {
+        if place >= self.depth() {
+            return Place::IntegerAt(0);
+        }
+        let below = match (self.pushed_place(), place) {
+            (Some(pushed), 0) => return pushed,
+            (Some(_), _) => place - 1,
+            (None, _) => place,
+        };
+        let at = below + self.instruction.popped();
+        self.raised(self.claimed_place(at))
+    }
+
+    // Whether a leaving place has the claimed kind, and a level at most the claimed one.
+    fn fits_under(&self, leaving: Place, claimed: Place) -> bool
+        ensures { result ≡ fits_under_of (order_of L.Lattice.order self.now) leaving claimed }
+    {
+        leaving.kind() == claimed.kind()
+            && self.check.lattice.at_most(leaving.level(), claimed.level())
+    }
+
+    // Whether all that leaves fits under a claimed stack.
+    fn all_fit_under(&self, next: Claim) -> bool
+        ensures { result
+            ≡ all_fit_under (order_of L.Lattice.order self.now) (leaves_of L.Lattice.order self.now)
+            (claim_says self.now.check.now.job next).stack }
+    {
+        let depth = self.depth();
+        depth == u16::from(next.depth)
+            && (0..depth).all(|place| self.fits_under(
+                self.place(place),
+                self.check.job.stack_place(next, place),
+            ))
+    }
+
+    // Whether the claimed stack begins with places of these kinds.
+    fn begins(&self, kinds: &[Kind]) -> bool
+        ensures { result ≡ begins_of kinds.now (map kind_of (claimed_of self.now).stack) }
+    {
+        let depth = u16::from(self.claim.depth);
+        kinds.len() <= usize::from(depth)
+            && kinds
+                .iter()
+                .zip(0..depth)
+                .all(|(kind, place)| *kind == self.claimed_place(place).kind())
+    }
+
+    // Whether a stack of the claimed depth and kinds does not fault.
+    fn fits_its_stack(&self) -> bool
+        ensures { result ≡ fits_its_stack_of (claimed_of self.now) self.now.instruction }
+    {
+        self.begins(self.instruction.pops()) && usize::from(self.depth()) <= STACK_PLACES
+    }
+
+    // Whether what is stored goes to a variable whose level is high enough.
+    fn stores_upward(&self) -> bool
+        ensures { result
+            ≡ stores_upward_of (order_of L.Lattice.order self.now)
+            (levels_of self.now.check.now) (claimed_of self.now) self.now.instruction }
+    {
+        match self.instruction {
+            Instruction::Store(variable) => {
+                let level = self.variable_level(variable);
+                self.check.lattice.at_most(self.joined_one(), level)
+            }
+            _ => true,
+        }
+    }
+
+    // Whether a label takes what leaves: the exit an empty stack, another by its claim.
+    fn is_taken_by(&self, label: u16) -> bool
+        ensures { result
+            ≡ takes_of (order_of L.Lattice.order self.now) (job_of self.now.check.now)
+            (leaves_of L.Lattice.order self.now) label }
+    {
+        if usize::from(label) == self.check.program.len() {
+            return self.depth() == 0;
+        }
+        // Not by `is_some_and`: of a closure that calls `all_fit_under` no result is inferred, and it would want clauses.
+        match self.check.job.claim(label) {
+            Some(next) => self.all_fit_under(next),
+            None => false,
+        }
+    }
+
+    // Whether every successor of the label takes what leaves it.
+    fn successors_take(&self, label: u8) -> bool
+        ensures { result
+            ≡ successors_take_of (order_of L.Lattice.order self.now)
+            (levels_of self.now.check.now) (job_of self.now.check.now)
+            label (claimed_of self.now) self.now.instruction }
+    {
+        self.instruction
+            .successors(label)
+            .into_iter()
+            .flatten()
+            .all(|next| self.is_taken_by(next))
+    }
+}
+
+impl<L: Lattice> JobCheck<'_, L> {
+    ghost use Rattle.checker.specs.Of.{levels_of, job_of};
+
+    // The first rule that a label breaks, if it has a claim.
+    pub(crate) fn check_label(&self, label: u8) -> Result<(), Rule>
+        ensures { rule_answer result
+            ≡ label_rule (L.Lattice.order self.now.lattice.now) (levels_of self.now)
+            (job_of self.now) label }
+    {
+        // Not by `zip`, as `check_branch` has it: the proof of the rules' order does not close.
+        let Some(claim) = self.job.claim(u16::from(label)) else {
+            return Ok(());
+        };
+        let Some(instruction) = self.program.fetch(usize::from(label)) else {
+            return Ok(());
+        };
+        let check = LabelCheck {
+            check: self,
+            claim,
+            instruction,
+        };
+        if !check.fits_its_stack() {
+            return Err(Rule::Stack);
+        }
+        if !check.stores_upward() {
+            return Err(Rule::Store);
+        }
+        if !check.successors_take(label) {
+            return Err(Rule::Successor);
+        }
+        Ok(())
+    }
+}
