@@ -83,12 +83,14 @@ impl<L: Lattice> JobCheck<'_, L> {
     {
         let claim = self.job.claim(u16::from(label));
         let instruction = self.program.fetch(usize::from(label));
-        let Some((claim, Instruction::GotoF { junction, .. })) = claim.zip(instruction) else {
-            return Ok(());
-        };
-        self.check_region(&MarkedRegion {
-            guard: self.job.stack_place(claim, 0).level(),
-            marks: Marks::region(self.program, junction, label),
-        })
+        match (claim, instruction) {
+            (Some(claim), Some(Instruction::GotoF { junction, .. })) => {
+                self.check_region(&MarkedRegion {
+                    guard: self.job.stack_place(claim, 0).level(),
+                    marks: Marks::region(self.program, junction, label),
+                })
+            }
+            _ => Ok(()),
+        }
     }
 }

@@ -5,7 +5,7 @@ ghost use Rattle.push.specs.Language.{begins as begins_of};
 ghost use Rattle.job.specs.Records.{kind as kind_of};
 ghost use Rattle.checker.specs.Faults.{rule_answer};
 ghost use Rattle.checker.specs.Leaving.{joined_one as joined_one_of, joined_two as joined_two_of, pushed_place as pushed_place_of, raised as raised_of, level_at, fits_under as fits_under_of, all_fit_under};
-ghost use Rattle.checker.specs.Rules.{fits_its_stack as fits_its_stack_of, stores_upward as stores_upward_of, takes as takes_of, successors_take as successors_take_of, label_rule};
+ghost use Rattle.checker.specs.Rules.{fits_its_stack as fits_its_stack_of, stores_upward as stores_upward_of, takes as takes_of, successors_take as successors_take_of, rule_at, label_rule};
 
 use crate::fault::Rule;
 use crate::job_check::JobCheck;
@@ -192,7 +192,7 @@ impl<L: Lattice> LabelCheck<'_, L> {
         if usize::from(label) == self.check.program.len() {
             return self.depth() == 0;
         }
-        // Not by `is_some_and`: of a closure that calls `all_fit_under` no result is inferred, and it would want clauses.
+        // Not by `is_some_and`: the proof does not close.
         match self.check.job.claim(label) {
             Some(next) => self.all_fit_under(next),
             None => false,
@@ -212,6 +212,24 @@ impl<L: Lattice> LabelCheck<'_, L> {
             .flatten()
             .all(|next| self.is_taken_by(next))
     }
+
+    // The first rule that the label breaks.
+    fn check_rules(&self, label: u8) -> Result<(), Rule>
+        ensures { rule_answer result
+            ≡ rule_at (order_of L.Lattice.order self.now) (levels_of self.now.check.now)
+            (job_of self.now.check.now) label (claimed_of self.now) self.now.instruction }
+    {
+        if !self.fits_its_stack() {
+            return Err(Rule::Stack);
+        }
+        if !self.stores_upward() {
+            return Err(Rule::Store);
+        }
+        if !self.successors_take(label) {
+            return Err(Rule::Successor);
+        }
+        Ok(())
+    }
 }
 
 impl<L: Lattice> JobCheck<'_, L> {
@@ -223,27 +241,16 @@ impl<L: Lattice> JobCheck<'_, L> {
             ≡ label_rule (L.Lattice.order self.now.lattice.now) (levels_of self.now)
             (job_of self.now) label }
     {
-        // Not by `zip`, as `check_branch` has it: the proof of the rules' order does not close.
-        let Some(claim) = self.job.claim(u16::from(label)) else {
-            return Ok(());
-        };
-        let Some(instruction) = self.program.fetch(usize::from(label)) else {
-            return Ok(());
-        };
-        let check = LabelCheck {
-            check: self,
-            claim,
-            instruction,
-        };
-        if !check.fits_its_stack() {
-            return Err(Rule::Stack);
+        let claim = self.job.claim(u16::from(label));
+        let instruction = self.program.fetch(usize::from(label));
+        match (claim, instruction) {
+            (Some(claim), Some(instruction)) => LabelCheck {
+                check: self,
+                claim,
+                instruction,
+            }
+            .check_rules(label),
+            _ => Ok(()),
         }
-        if !check.stores_upward() {
-            return Err(Rule::Store);
-        }
-        if !check.successors_take(label) {
-            return Err(Rule::Successor);
-        }
-        Ok(())
     }
 }
