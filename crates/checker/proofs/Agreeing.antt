@@ -1,6 +1,8 @@
 -- Two runs at one label that agree on what is open to an observer: under the same instruction they stay so, unless they
 -- part at a branch on a closed boolean. Assumes the laws of the order.
 use Rattle.std.proofs.Common.{◌≡◌, ℕ, ◌+◌, ◌<◌, Bool, true, false, cond, not, ◌⊎◌, List, [], ◌∷◌, get_or, set, ℤ, pos, int_lt, Some, sym, refl, ap, ◌∙◌, subst, ap₂, inl, inr, arith}
+use Rattle.std.specs.List.{Contains}
+use Rattle.checker.proofs.ContainsFacts.{contains_first}
 use Rattle.std.proofs.lemmas.Bool.{true≢false}
 use Rattle.lattice.specs.Order.{Order, Laws}
 use Rattle.lattice.specs.Levels.{join_level}
@@ -15,7 +17,6 @@ use Rattle.push.specs.Machine as rule
 use Rattle.push.specs.Machine.{at, ◌⊢◌⟶◌}
 use Rattle.job.specs.declared.claim.Place.{Place}
 use Rattle.job.specs.declared.claim.Place.TheVariants.{IntegerAt, BooleanAt}
-use Rattle.checker.specs.Region.{Among, here}
 use Rattle.checker.specs.WellClaimed.{Under, none, integer, boolean}
 use Rattle.checker.proofs.SoundFacts as sound
 use Rattle.checker.proofs.SoundFacts.{Levels}
@@ -69,7 +70,7 @@ module _ (o : Order) (w : ℕ) where
         pub right_values : List ℤ
         pub left_rule : code ⊢ at l s vs ⟶ at next left left_values
         pub right_rule : code ⊢ at l t ws ⟶ at next right right_values
-        pub among : Among next (successors i l)
+        pub among : Contains (successors i l) next
         pub agree : Agree qs left right
         pub opened : SameWhenOpen o levels w left_values right_values
 
@@ -85,23 +86,23 @@ module _ (o : Order) (w : ℕ) where
 
       pub together : {i : Instruction} {ps qs : List Place} → fetch code l ≡ Some i → Leaves o levels p i ps qs → Levels o ps → {s t : List Value} {vs ws : List ℤ} → Agree ps s t → SameWhenOpen o levels w vs ws → Both i qs s t vs ws ⊎ Apart i ps qs s t
       together at_l (leaving.load {v = v} {ps = ps} small room) ls {s} {t} {vs} {ws} r opened =
-          inl (record { next = l + 1; left = Int (get_or vs v (pos 0)) ∷ s; right = Int (get_or ws v (pos 0)) ∷ t; left_values = vs; right_values = ws; left_rule = rule.load at_l small (omega (arith, fits_length (left_fits r))); right_rule = rule.load at_l small (omega (arith, fits_length (right_fits r))); among = here; agree = same_int (λ low. opened.agree v small (low_left (get_or levels v 0) p (graded v small) hp low)) r; opened = opened })
+          inl (record { next = l + 1; left = Int (get_or vs v (pos 0)) ∷ s; right = Int (get_or ws v (pos 0)) ∷ t; left_values = vs; right_values = ws; left_rule = rule.load at_l small (omega (arith, fits_length (left_fits r))); right_rule = rule.load at_l small (omega (arith, fits_length (right_fits r))); among = contains_first (l + 1) []; agree = same_int (λ low. opened.agree v small (low_left (get_or levels v 0) p (graded v small) hp low)) r; opened = opened })
       together at_l (leaving.store {v = v} {a = a} small up) (sound.more ha ls) {vs = vs} {ws = ws} (same_int {x = x} {y = y} {s = s} {t = t} h r) opened =
-          inl (record { next = l + 1; left = s; right = t; left_values = set vs v x; right_values = set ws v y; left_rule = rule.store at_l small; right_rule = rule.store at_l small; among = here; agree = r; opened = stored v a x y vs ws small ha up h opened })
+          inl (record { next = l + 1; left = s; right = t; left_values = set vs v x; right_values = set ws v y; left_rule = rule.store at_l small; right_rule = rule.store at_l small; among = contains_first (l + 1) []; agree = r; opened = stored v a x y vs ws small ha up h opened })
       together at_l (leaving.push {x = x} room) ls {s} {t} {vs} {ws} r opened =
-          inl (record { next = l + 1; left = Int x ∷ s; right = Int x ∷ t; left_values = vs; right_values = ws; left_rule = rule.push at_l (omega (arith, fits_length (left_fits r))); right_rule = rule.push at_l (omega (arith, fits_length (right_fits r))); among = here; agree = same_int (λ _. refl) r; opened = opened })
+          inl (record { next = l + 1; left = Int x ∷ s; right = Int x ∷ t; left_values = vs; right_values = ws; left_rule = rule.push at_l (omega (arith, fits_length (left_fits r))); right_rule = rule.push at_l (omega (arith, fits_length (right_fits r))); among = contains_first (l + 1) []; agree = same_int (λ _. refl) r; opened = opened })
       together at_l (leaving.add {a = a} {b = b}) (sound.more ha (sound.more hb ls)) {vs = vs} {ws = ws} (same_int {x = x} {y = y} h (same_int {x = u} {y = v} {s = s} {t = t} k r)) opened =
-          inl (record { next = l + 1; left = Int (sum u x) ∷ s; right = Int (sum v y) ∷ t; left_values = vs; right_values = ws; left_rule = rule.add at_l; right_rule = rule.add at_l; among = here; agree = same_int (λ low. ap₂ sum (k (low_second a b ha hb low)) (h (low_first a b ha hb low))) r; opened = opened })
+          inl (record { next = l + 1; left = Int (sum u x) ∷ s; right = Int (sum v y) ∷ t; left_values = vs; right_values = ws; left_rule = rule.add at_l; right_rule = rule.add at_l; among = contains_first (l + 1) []; agree = same_int (λ low. ap₂ sum (k (low_second a b ha hb low)) (h (low_first a b ha hb low))) r; opened = opened })
       together at_l (leaving.sub {a = a} {b = b}) (sound.more ha (sound.more hb ls)) {vs = vs} {ws = ws} (same_int {x = x} {y = y} h (same_int {x = u} {y = v} {s = s} {t = t} k r)) opened =
-          inl (record { next = l + 1; left = Int (difference u x) ∷ s; right = Int (difference v y) ∷ t; left_values = vs; right_values = ws; left_rule = rule.sub at_l; right_rule = rule.sub at_l; among = here; agree = same_int (λ low. ap₂ difference (k (low_second a b ha hb low)) (h (low_first a b ha hb low))) r; opened = opened })
+          inl (record { next = l + 1; left = Int (difference u x) ∷ s; right = Int (difference v y) ∷ t; left_values = vs; right_values = ws; left_rule = rule.sub at_l; right_rule = rule.sub at_l; among = contains_first (l + 1) []; agree = same_int (λ low. ap₂ difference (k (low_second a b ha hb low)) (h (low_first a b ha hb low))) r; opened = opened })
       together at_l (leaving.eq {a = a} {b = b}) (sound.more ha (sound.more hb ls)) {vs = vs} {ws = ws} (same_int {x = x} {y = y} h (same_int {x = u} {y = v} {s = s} {t = t} k r)) opened =
-          inl (record { next = l + 1; left = Flag (same u x) ∷ s; right = Flag (same v y) ∷ t; left_values = vs; right_values = ws; left_rule = rule.eq at_l; right_rule = rule.eq at_l; among = here; agree = same_flag (λ low. ap₂ same (k (low_second a b ha hb low)) (h (low_first a b ha hb low))) r; opened = opened })
+          inl (record { next = l + 1; left = Flag (same u x) ∷ s; right = Flag (same v y) ∷ t; left_values = vs; right_values = ws; left_rule = rule.eq at_l; right_rule = rule.eq at_l; among = contains_first (l + 1) []; agree = same_flag (λ low. ap₂ same (k (low_second a b ha hb low)) (h (low_first a b ha hb low))) r; opened = opened })
       together at_l (leaving.less {a = a} {b = b}) (sound.more ha (sound.more hb ls)) {vs = vs} {ws = ws} (same_int {x = x} {y = y} h (same_int {x = u} {y = v} {s = s} {t = t} k r)) opened =
-          inl (record { next = l + 1; left = Flag (int_lt u x) ∷ s; right = Flag (int_lt v y) ∷ t; left_values = vs; right_values = ws; left_rule = rule.less at_l; right_rule = rule.less at_l; among = here; agree = same_flag (λ low. ap₂ int_lt (k (low_second a b ha hb low)) (h (low_first a b ha hb low))) r; opened = opened })
+          inl (record { next = l + 1; left = Flag (int_lt u x) ∷ s; right = Flag (int_lt v y) ∷ t; left_values = vs; right_values = ws; left_rule = rule.less at_l; right_rule = rule.less at_l; among = contains_first (l + 1) []; agree = same_flag (λ low. ap₂ int_lt (k (low_second a b ha hb low)) (h (low_first a b ha hb low))) r; opened = opened })
       together at_l (leaving.not {a = a}) (sound.more ha ls) {vs = vs} {ws = ws} (same_flag {b = b} {d = d} {s = s} {t = t} h r) opened =
-          inl (record { next = l + 1; left = Flag (not b) ∷ s; right = Flag (not d) ∷ t; left_values = vs; right_values = ws; left_rule = rule.not at_l; right_rule = rule.not at_l; among = here; agree = same_flag (λ low. ap not (h (low_left a p ha hp low))) r; opened = opened })
+          inl (record { next = l + 1; left = Flag (not b) ∷ s; right = Flag (not d) ∷ t; left_values = vs; right_values = ws; left_rule = rule.not at_l; right_rule = rule.not at_l; among = contains_first (l + 1) []; agree = same_flag (λ low. ap not (h (low_left a p ha hp low))) r; opened = opened })
       together at_l (leaving.goto {m = m}) ls {s} {t} {vs} {ws} r opened =
-          inl (record { next = m; left = s; right = t; left_values = vs; right_values = ws; left_rule = rule.goto at_l; right_rule = rule.goto at_l; among = here; agree = r; opened = opened })
+          inl (record { next = m; left = s; right = t; left_values = vs; right_values = ws; left_rule = rule.goto at_l; right_rule = rule.goto at_l; among = contains_first m []; agree = r; opened = opened })
       together at_l (leaving.gotof {m = m} {j = j} {g = g} {ps = ps}) ls {vs = vs} {ws = ws} (same_flag {b = b} {d = d} {s = s} {t = t} h r) opened = by (o.at_most g w) refl
         where
           by : (q : Bool) → o.at_most g w ≡ q → Both (GotoF m j) ps (Flag b ∷ s) (Flag d ∷ t) vs ws ⊎ Apart (GotoF m j) (BooleanAt g ∷ ps) ps (Flag b ∷ s) (Flag d ∷ t)

@@ -1,5 +1,7 @@
 -- Each rule's test decides the relation that the rule names. Assumes nothing.
 use Rattle.std.proofs.Common.{◌≡◌, ℕ, ◌+◌, ◌-◌, ◌≤◌, Bool, true, false, not, ◌||◌, eqb, leb, List, [], ◌∷◌, ◌++◌, map, length, get_or, Some, None, Decides, Option, sym, refl, ap, ◌∙◌, subst, ⊎_elim, arith, length-append}
+use Rattle.std.specs.List.{Contains}
+use Rattle.checker.proofs.ContainsFacts.{contains_first, contains_rest, contains_cases, contains_none}
 use Rattle.std.specs.List.{list_all}
 use Rattle.std.specs.Option.{option_to_list}
 use Rattle.std.proofs.lemmas.Bool.{and_parts, and_from, leb-true, le-leb, eq-eqb, ne_eqb, cases_Bool, cases_eq, cond-true, cond-false, false≢true, false_from_ne_true}
@@ -15,8 +17,8 @@ use Rattle.job.specs.Records.{Claimed, kind}
 use Rattle.job.proofs.AllBelow.{all_below_holds, all_below_from}
 use Rattle.checker.specs.Leaving.{joined_one, leaves, level_at, all_fit_under}
 use Rattle.checker.specs.Rules.{ProgramWithClaims, exit, is_empty, claim_takes, takes, fits_its_stack, stores_upward, successors_take}
-use Rattle.checker.specs.Region.{Among, here, there, Region, region}
-use Rattle.checker.proofs.RegionSet.{nothing, marks_are_region, region_is_marked}
+use Rattle.checker.specs.Region.{Region, region}
+use Rattle.checker.proofs.RegionSet.{marks_are_region, region_is_marked}
 use Rattle.checker.specs.Verdict.{claim_at_least, is_surrounded_if_marked, marked_at_least}
 use Rattle.checker.specs.WellClaimed.{FitsItsStack, StoresUpward, Under, none, integer, boolean, Takes, at_exit, by_claim, SuccessorsTake, AvoidsExit, Surrounded, RegionRaised}
 
@@ -72,11 +74,6 @@ under_fits o none = refl
 under_fits o (integer {a = a} {b = b} {ps = ps} {qs = qs} h u) = and_from (o.at_most a b) (all_fit_under o ps qs) h (under_fits o u)
 under_fits o (boolean {a = a} {b = b} {ps = ps} {qs = qs} h u) = and_from (o.at_most a b) (all_fit_under o ps qs) h (under_fits o u)
 
--- a label among some is the first or among the rest
-among_cases : (P : ℕ → Type 0) (x : ℕ) (xs : List ℕ) (y : ℕ) → Among y (x ∷ xs) → P x → (Among y xs → P y) → P y
-among_cases P x xs y here p q = p
-among_cases P x xs y (there a) p q = q a
-
 pub emptied : (ps : List Place) → is_empty ps ≡ true → ps ≡ []
 emptied [] h = refl
 emptied (p ∷ ps) h = absurd (false≢true h)
@@ -100,15 +97,18 @@ module _ (o : Order) (job : ProgramWithClaims) (stack : List Place) where
   takes_it label (by_claim ne has u) =
       cond-false (eqb label (exit job)) (is_empty stack) (claim_takes o stack (job.claim label)) (ne_eqb label (exit job) ne) ∙ ap (claim_takes o stack) has ∙ under_fits o u
 
-  all_taken : (labels : List ℕ) → list_all (takes o job stack) labels ≡ true → (next : ℕ) → Among next labels → Takes o job stack next
-  all_taken [] h next a = absurd (nothing next a)
+  all_taken : (labels : List ℕ) → list_all (takes o job stack) labels ≡ true → (next : ℕ) → Contains labels next → Takes o job stack next
+  all_taken [] h next a = absurd (contains_none next a)
   all_taken (x ∷ labels) h next a =
       let p = and_parts (takes o job stack x) (list_all (takes o job stack) labels) h in
-      among_cases (λ n. Takes o job stack n) x labels next a (taken x p.0) (λ b. all_taken labels p.1 next b)
+      ⊎_elim (λ (e : next ≡ x). subst (Takes o job stack) (sym e) (taken x p.0)) (λ (b : Contains labels next). all_taken labels p.1 next b)
+      (contains_cases x labels next a)
 
-  all_take_it : (labels : List ℕ) → ((next : ℕ) → Among next labels → Takes o job stack next) → list_all (takes o job stack) labels ≡ true
+  all_take_it : (labels : List ℕ) → ((next : ℕ) → Contains labels next → Takes o job stack next) → list_all (takes o job stack) labels ≡ true
   all_take_it [] k = refl
-  all_take_it (x ∷ labels) k = and_from (takes o job stack x) (list_all (takes o job stack) labels) (takes_it x (k x here)) (all_take_it labels (λ n a. k n (there a)))
+  all_take_it (x ∷ labels) k =
+      and_from (takes o job stack x) (list_all (takes o job stack) labels) (takes_it x (k x (contains_first x labels)))
+      (all_take_it labels (λ n a. k n (contains_rest x labels n a)))
 
 pub decides_successors : (o : Order) (levels : List ℕ) (job : ProgramWithClaims) (label : ℕ) (c : Claimed) (i : Instruction) → Decides (successors_take o levels job label c i) (SuccessorsTake o levels job label c i)
 decides_successors o levels job label c i = (all_taken o job (leaves o levels c i) (successors i label), all_take_it o job (leaves o levels c i) (successors i label))

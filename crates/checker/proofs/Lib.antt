@@ -1,4 +1,5 @@
 pub mod Agreeing
+pub mod ContainsFacts
 pub mod Decided
 pub mod DecodeFacts
 pub mod FirstFacts

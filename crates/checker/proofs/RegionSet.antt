@@ -1,5 +1,7 @@
 -- The table of marks holds exactly the region, the least set. Assumes nothing.
 use Rattle.std.proofs.Common.{◌≡◌, ℕ, zero, suc, ◌+◌, ◌<◌, ◌≤◌, Bool, true, false, cond, eqb, ◌≢◌, ◌⊎◌, List, [], ◌∷◌, length, get_or, set, replicate, sym, refl, ap, ◌∙◌, subst, inl, inr, ⊎_elim, arith}
+use Rattle.std.specs.List.{Contains}
+use Rattle.checker.proofs.ContainsFacts.{contains_first, contains_rest, contains_cases, contains_none}
 use native.Mathlib.Decide.{le_ind}
 use Rattle.std.proofs.lemmas.List.{get_or-set_same, get_or_past, length-set, length-replicate, get_or-replicate}
 use Rattle.std.specs.List.{count_by}
@@ -7,7 +9,7 @@ use Rattle.std.proofs.lemmas.List.Sums.{sum_by-cons, count_by-le-length}
 use Rattle.std.proofs.lemmas.Bool.{cases_lt, cond_both, ne_eqb, eqb-false, false≢true}
 use Rattle.push.specs.declared.instruction.Instruction.{Instruction}
 use Rattle.std.proofs.lemmas.Option.{slice_get_past}
-use Rattle.checker.specs.Region.{from_instruction, next_labels, Among, here, there, Region, enter, onward, mark_all, spread_below, spread_times, region, MarksAreTheRegion}
+use Rattle.checker.specs.Region.{from_instruction, next_labels, Region, enter, onward, mark_all, spread_below, spread_times, region, MarksAreTheRegion}
 
 -- A label that is marked.
 abbrev Marked : List Bool → ℕ → Type 0
@@ -61,18 +63,21 @@ unfolding one
 all_keeps j [] m = kept_self m
 all_keeps j (x ∷ ls) m = kept_on (one_keeps j x m) (all_keeps j ls (one j x m))
 
-all_marks : {x : ℕ} {ls : List ℕ} (j : ℕ) (m : List Bool) → Among x ls → x ≢ j → x < length m → Marked (mark_all j ls m) x
+all_marks : (j x : ℕ) (ls : List ℕ) (m : List Bool) → Contains ls x → x ≢ j → x < length m → Marked (mark_all j ls m) x
 unfolding one
-all_marks j m (here {x = x} {xs = xs}) ne h = (all_keeps j xs (one j x m)).marks x (one_marks j x m ne h)
-all_marks j m (there {y = y} a) ne h = all_marks j (one j y m) a ne (omega (arith, (one_keeps j y m).long))
+all_marks j x [] m a ne h = absurd (contains_none x a)
+all_marks j x (y ∷ ls) m a ne h =
+    ⊎_elim (λ (e : x ≡ y). (all_keeps j ls (one j y m)).marks x (subst (λ z. Marked (one j z m) x) e (one_marks j x m ne h)))
+    (λ (b : Contains ls x). all_marks j x ls (one j y m) b ne (omega (arith, h, (one_keeps j y m).long)))
+    (contains_cases y ls x a)
 
-all_only : (j l : ℕ) (ls : List ℕ) (m : List Bool) → Marked (mark_all j ls m) l → (Among l ls × (l ≢ j)) ⊎ Marked m l
+all_only : (j l : ℕ) (ls : List ℕ) (m : List Bool) → Marked (mark_all j ls m) l → (Contains ls l × (l ≢ j)) ⊎ Marked m l
 unfolding one
 all_only j l [] m h = inr h
 all_only j l (x ∷ ls) m h =
-    ⊎_elim (λ (p : Among l ls × (l ≢ j)). inl (there p.0, p.1))
+    ⊎_elim (λ (p : Contains ls l × (l ≢ j)). inl (contains_rest x ls l p.0, p.1))
     (λ (k : Marked (one j x m) l).
-    ⊎_elim (λ (p : (l ≡ x) × (x ≢ j)). inl (subst (λ y. Among y (x ∷ ls)) (sym p.0) here, λ e. p.1 (sym p.0 ∙ e))) (λ (n : Marked m l). inr n) (one_only j x l m k))
+    ⊎_elim (λ (p : (l ≡ x) × (x ≢ j)). inl (subst (Contains (x ∷ ls)) (sym p.0) (contains_first x ls), λ e. p.1 (sym p.0 ∙ e))) (λ (n : Marked m l). inr n) (one_only j x l m k))
     (all_only j l ls (one j x m) h)
 
 module _ (code : List Instruction) (j branch : ℕ) where
@@ -87,7 +92,7 @@ module _ (code : List Instruction) (j branch : ℕ) where
       let before : List Bool = spread_below code j n m in
       let so_far : Inside before = below_inside n m h in
       cond_both (get_or before n false) (mark_all j (next_labels code n) before) before Inside
-      (λ marked l k. ⊎_elim (λ (p : Among l (next_labels code n) × (l ≢ j)). onward (so_far n marked) p.0 p.1) (λ (q : Marked before l). so_far l q) (all_only j l (next_labels code n) before k))
+      (λ marked l k. ⊎_elim (λ (p : Contains (next_labels code n) l × (l ≢ j)). onward (so_far n marked) p.0 p.1) (λ (q : Marked before l). so_far l q) (all_only j l (next_labels code n) before k))
       (λ _. so_far)
 
   times_inside : (k : ℕ) (m : List Bool) → Inside m → Inside (spread_times code j k m)
@@ -112,14 +117,14 @@ module _ (code : List Instruction) (j branch : ℕ) where
   later_keeps a b m = le_ind (λ n. Kept (spread_below code j a m) (spread_below code j n m)) (kept_self (spread_below code j a m)) (λ n _ k. kept_on k (one_label_keeps n m)) b
 
   -- what comes after a marked label is marked when the round is over
-  round_marks : (from label : ℕ) (m : List Bool) → from < length code → Marked m from → Among label (next_labels code from) → label ≢ j → label < length m → Marked (spread_below code j (length code) m) label
+  round_marks : (from label : ℕ) (m : List Bool) → from < length code → Marked m from → Contains (next_labels code from) label → label ≢ j → label < length m → Marked (spread_below code j (length code) m) label
   unfolding spread_below
   round_marks from label m within h a ne small =
       let before : List Bool = spread_below code j from m in
       let there_too : get_or before from false ≡ true = (below_keeps from m).marks from h in
       let here_now : Marked (spread_below code j (suc from) m) label =
       ap (λ b. get_or (cond b (mark_all j (next_labels code from) before) before) label false) there_too
-      ∙ all_marks j before a ne (omega (arith, (below_keeps from m).long)) in
+      ∙ all_marks j label (next_labels code from) before a ne (omega (arith, (below_keeps from m).long)) in
       (later_keeps (suc from) (length code) m within).marks label here_now
 
 -- How many are marked.
@@ -169,9 +174,6 @@ module _ (code : List Instruction) (j : ℕ) (m : List Bool) where
   at_rest k h =
       ⊎_elim (λ (e : after (suc k) ≡ after k). e) (λ (c : k ≤ count (after k)). absurd (omega (arith, count_by-le-length (λ b. b) (after k), (times_keeps k).long))) (at_rest_or_many k)
 
-pub nothing : (l : ℕ) → Among l [] → ⊥
-nothing l a = elim a [ ]
-
 module _ (code : List Instruction) (j branch : ℕ) where
   start : List Bool
   start = mark_all j (next_labels code branch) (replicate 129 false)
@@ -187,18 +189,18 @@ module _ (code : List Instruction) (j branch : ℕ) where
   pub marks_are_region : (l : ℕ) → Marked (region code j branch) l → Region code j branch l
   marks_are_region =
       times_inside code j branch 130 (mark_all j (next_labels code branch) (replicate 129 false))
-      (λ l h. ⊎_elim (λ (p : Among l (next_labels code branch) × (l ≢ j)). enter p.0 p.1) (λ (k : Marked (replicate 129 false) l). absurd (none_marked 129 l k)) (all_only j l (next_labels code branch) (replicate 129 false) h))
+      (λ l h. ⊎_elim (λ (p : Contains (next_labels code branch) l × (l ≢ j)). enter p.0 p.1) (λ (k : Marked (replicate 129 false) l). absurd (none_marked 129 l k)) (all_only j l (next_labels code branch) (replicate 129 false) h))
 
   -- a label with something after it is an instruction's
-  some_after : (from label : ℕ) → Among label (next_labels code from) → from < length code
+  some_after : (from label : ℕ) → Contains (next_labels code from) label → from < length code
   some_after from label a =
-      ⊎_elim (λ (h : from < length code). h) (λ (h : length code ≤ from). absurd (nothing label (subst (λ o. Among label (from_instruction o from)) (slice_get_past code from h) a))) (cases_lt from (length code))
+      ⊎_elim (λ (h : from < length code). h) (λ (h : length code ≤ from). absurd (contains_none label (subst (λ o. Contains (from_instruction o from) label) (slice_get_past code from h) a))) (cases_lt from (length code))
 
   -- every label of the region that the table has a place for is marked
   pub region_is_marked : {l : ℕ} → length code ≤ 128 → l ≤ 128 → Region code j branch l → Marked (region code j branch) l
   unfolding start spread_times
   region_is_marked {l} few small (enter a ne) =
-      (times_keeps code j start 130).marks l (all_marks j (replicate 129 false) a ne (omega (arith, length-replicate 129 false)))
+      (times_keeps code j start 130).marks l (all_marks j l (next_labels code branch) (replicate 129 false) a ne (omega (arith, length-replicate 129 false)))
   region_is_marked {l} few small (onward {from = from} r a ne) =
       let within : from < length code = some_after from l a in
       let was : Marked (region code j branch) from = region_is_marked few (omega arith) r in

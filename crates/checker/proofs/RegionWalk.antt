@@ -1,6 +1,8 @@
 -- One run in the region of a branch on a closed boolean: it changes no open variable, and it comes to the junction with
 -- some closed places on top of an end of the stack that the branch left. Assumes the laws of the order.
-use Rattle.std.proofs.Common.{◌≡◌, ℕ, ◌+◌, ◌<◌, ◌≤◌, Bool, true, false, cond, not, eqb, ◌⊎◌, List, ◌∷◌, length, get_or, set, ℤ, pos, int_lt, Some, sym, refl, ap, ◌∙◌, subst, inl, inr, arith}
+use Rattle.std.proofs.Common.{◌≡◌, ℕ, ◌+◌, ◌<◌, ◌≤◌, Bool, true, false, cond, not, eqb, ◌⊎◌, List, [], ◌∷◌, length, get_or, set, ℤ, pos, int_lt, Some, sym, refl, ap, ◌∙◌, subst, inl, inr, arith}
+use Rattle.std.specs.List.{Contains}
+use Rattle.checker.proofs.ContainsFacts.{contains_first}
 use Rattle.std.proofs.lemmas.Bool.{eqb-true, eqb-false}
 use Rattle.std.proofs.lemmas.List.{set-get_or}
 use Rattle.lattice.specs.Order.{Order, Laws}
@@ -20,7 +22,7 @@ use Rattle.std.proofs.lemmas.Option.{slice_get-get_or, same_Some}
 use Rattle.job.specs.declared.claim.Place.{Place}
 use Rattle.job.specs.Records.{Claimed, level}
 use Rattle.checker.specs.Rules.{ProgramWithClaims, exit}
-use Rattle.checker.specs.Region.{Among, here, Region, onward, next_labels, from_instruction}
+use Rattle.checker.specs.Region.{Region, onward, next_labels, from_instruction}
 use Rattle.checker.specs.WellClaimed.{Under, none, integer, boolean, Takes, at_exit, by_claim, Surrounded}
 use Rattle.checker.proofs.SoundFacts as sound
 use Rattle.checker.proofs.SoundFacts.{Levels}
@@ -97,7 +99,7 @@ module _ (o : Order) (w : ℕ) where
         stack : List Value
         values : List ℤ
         by_rule : code ⊢ at l t vs ⟶ at next stack values
-        among : Among next (successors i l)
+        among : Contains (successors i l) next
         fits : Fits qs stack
         keeps : Keeps ps s qs stack
         unchanged : SameWhenOpen o levels w vs values
@@ -112,23 +114,23 @@ module _ (o : Order) (w : ℕ) where
 
       hidden_step : {i : Instruction} {ps qs rs : List Place} {s t : List Value} → fetch code l ≡ Some i → Leaves o levels p i qs rs → Levels o qs → (vs : List ℤ) → length vs ≡ 32 → Fits qs t → Keeps ps s qs t → Hidden i ps s rs t vs
       hidden_step {t = t} at_l (leaving.load {v = v} small room) ls vs sized f k =
-          record { next = l + 1; stack = Int (get_or vs v (pos 0)) ∷ t; values = vs; by_rule = rule.load at_l small (omega (arith, fits_length f)); among = here; fits = fits_int f; keeps = above (closed_join (get_or levels v 0) (graded v small)) k; unchanged = same_here vs sized }
+          record { next = l + 1; stack = Int (get_or vs v (pos 0)) ∷ t; values = vs; by_rule = rule.load at_l small (omega (arith, fits_length f)); among = contains_first (l + 1) []; fits = fits_int f; keeps = above (closed_join (get_or levels v 0) (graded v small)) k; unchanged = same_here vs sized }
       hidden_step at_l (leaving.store {v = v} {a = a} small up) (sound.more ha ls) vs sized (fits_int {x = x} {s = t} f) k =
-          record { next = l + 1; stack = t; values = set vs v x; by_rule = rule.store at_l small; among = here; fits = f; keeps = keeps_pop k; unchanged = hidden_store v a x vs small ha up sized }
+          record { next = l + 1; stack = t; values = set vs v x; by_rule = rule.store at_l small; among = contains_first (l + 1) []; fits = f; keeps = keeps_pop k; unchanged = hidden_store v a x vs small ha up sized }
       hidden_step {t = t} at_l (leaving.push {x = x} room) ls vs sized f k =
-          record { next = l + 1; stack = Int x ∷ t; values = vs; by_rule = rule.push at_l (omega (arith, fits_length f)); among = here; fits = fits_int f; keeps = above closed k; unchanged = same_here vs sized }
+          record { next = l + 1; stack = Int x ∷ t; values = vs; by_rule = rule.push at_l (omega (arith, fits_length f)); among = contains_first (l + 1) []; fits = fits_int f; keeps = above closed k; unchanged = same_here vs sized }
       hidden_step at_l (leaving.add {a = a} {b = b}) (sound.more ha (sound.more hb ls)) vs sized (fits_int {x = x} (fits_int {x = u} {s = t} f)) k =
-          record { next = l + 1; stack = Int (sum u x) ∷ t; values = vs; by_rule = rule.add at_l; among = here; fits = fits_int f; keeps = above (closed_join (o.join a b) (join_level o laws a b ha hb)) (keeps_pop (keeps_pop k)); unchanged = same_here vs sized }
+          record { next = l + 1; stack = Int (sum u x) ∷ t; values = vs; by_rule = rule.add at_l; among = contains_first (l + 1) []; fits = fits_int f; keeps = above (closed_join (o.join a b) (join_level o laws a b ha hb)) (keeps_pop (keeps_pop k)); unchanged = same_here vs sized }
       hidden_step at_l (leaving.sub {a = a} {b = b}) (sound.more ha (sound.more hb ls)) vs sized (fits_int {x = x} (fits_int {x = u} {s = t} f)) k =
-          record { next = l + 1; stack = Int (difference u x) ∷ t; values = vs; by_rule = rule.sub at_l; among = here; fits = fits_int f; keeps = above (closed_join (o.join a b) (join_level o laws a b ha hb)) (keeps_pop (keeps_pop k)); unchanged = same_here vs sized }
+          record { next = l + 1; stack = Int (difference u x) ∷ t; values = vs; by_rule = rule.sub at_l; among = contains_first (l + 1) []; fits = fits_int f; keeps = above (closed_join (o.join a b) (join_level o laws a b ha hb)) (keeps_pop (keeps_pop k)); unchanged = same_here vs sized }
       hidden_step at_l (leaving.eq {a = a} {b = b}) (sound.more ha (sound.more hb ls)) vs sized (fits_int {x = x} (fits_int {x = u} {s = t} f)) k =
-          record { next = l + 1; stack = Flag (same u x) ∷ t; values = vs; by_rule = rule.eq at_l; among = here; fits = fits_flag f; keeps = above (closed_join (o.join a b) (join_level o laws a b ha hb)) (keeps_pop (keeps_pop k)); unchanged = same_here vs sized }
+          record { next = l + 1; stack = Flag (same u x) ∷ t; values = vs; by_rule = rule.eq at_l; among = contains_first (l + 1) []; fits = fits_flag f; keeps = above (closed_join (o.join a b) (join_level o laws a b ha hb)) (keeps_pop (keeps_pop k)); unchanged = same_here vs sized }
       hidden_step at_l (leaving.less {a = a} {b = b}) (sound.more ha (sound.more hb ls)) vs sized (fits_int {x = x} (fits_int {x = u} {s = t} f)) k =
-          record { next = l + 1; stack = Flag (int_lt u x) ∷ t; values = vs; by_rule = rule.less at_l; among = here; fits = fits_flag f; keeps = above (closed_join (o.join a b) (join_level o laws a b ha hb)) (keeps_pop (keeps_pop k)); unchanged = same_here vs sized }
+          record { next = l + 1; stack = Flag (int_lt u x) ∷ t; values = vs; by_rule = rule.less at_l; among = contains_first (l + 1) []; fits = fits_flag f; keeps = above (closed_join (o.join a b) (join_level o laws a b ha hb)) (keeps_pop (keeps_pop k)); unchanged = same_here vs sized }
       hidden_step at_l (leaving.not {a = a}) (sound.more ha ls) vs sized (fits_flag {b = b} {s = t} f) k =
-          record { next = l + 1; stack = Flag (not b) ∷ t; values = vs; by_rule = rule.not at_l; among = here; fits = fits_flag f; keeps = above (closed_join a ha) (keeps_pop k); unchanged = same_here vs sized }
+          record { next = l + 1; stack = Flag (not b) ∷ t; values = vs; by_rule = rule.not at_l; among = contains_first (l + 1) []; fits = fits_flag f; keeps = above (closed_join a ha) (keeps_pop k); unchanged = same_here vs sized }
       hidden_step {t = t} at_l (leaving.goto {m = m}) ls vs sized f k =
-          record { next = m; stack = t; values = vs; by_rule = rule.goto at_l; among = here; fits = f; keeps = k; unchanged = same_here vs sized }
+          record { next = m; stack = t; values = vs; by_rule = rule.goto at_l; among = contains_first m []; fits = f; keeps = k; unchanged = same_here vs sized }
       hidden_step at_l (leaving.gotof {m = m}) ls vs sized (fits_flag {b = b} {s = t} f) k =
           record { next = cond b (l + 1) m; stack = t; values = vs; by_rule = rule.gotof at_l; among = either l m b; fits = f; keeps = keeps_pop k; unchanged = same_here vs sized }
 
@@ -178,7 +180,7 @@ module _ (o : Order) (laws : Laws o) (w : ℕ) (levels : List ℕ) (graded : Lev
       let leveled = acc.leveled l c below has in
       let step = hidden_step o w laws levels graded job.code c.surrounding l leveled.0 high at_l label.left leveled.1 vs sized (fits_under u f) (keeps_under o w laws u keeps) in
       let then : n ≡ at step.next step.stack step.values = one_way job.code (at l t vs) n (at step.next step.stack step.values) first step.by_rule in
-      let among : Among step.next (next_labels job.code l) = subst (λ x. Among step.next (from_instruction x l)) (sym at_l) step.among in
+      let among : Contains (next_labels job.code l) step.next = subst (λ x. Contains (from_instruction x l) step.next) (sym at_l) step.among in
       let result = reach rest halted step.next ps label.places s step.stack step.values then (onwards step.next (eqb step.next j) refl among) (label.taken step.next step.among) step.fits step.keeps step.unchanged.right in
       record {
         later = result.later;
@@ -190,6 +192,6 @@ module _ (o : Order) (laws : Laws o) (w : ℕ) (levels : List ℕ) (graded : Lev
         there_at = result.there_at;
       }
     where
-      onwards : (next : ℕ) (t : Bool) → eqb next j ≡ t → Among next (next_labels job.code l) → (next ≡ j) ⊎ Region job.code j from next
+      onwards : (next : ℕ) (t : Bool) → eqb next j ≡ t → Contains (next_labels job.code l) next → (next ≡ j) ⊎ Region job.code j from next
       onwards next true e a = inl (eqb-true next j e)
       onwards next false e a = inr (onward inside a (eqb-false next j e))

@@ -1,6 +1,7 @@
 -- Two halted runs of an accepted job from values that agree on what is open end in such values. Assumes the laws of the
 -- order.
 use Rattle.std.proofs.Common.{◌≡◌, ℕ, zero, suc, ◌+◌, ◌<◌, ◌≤◌, Bool, true, false, cond, eqb, ◌⊎◌, List, [], ◌∷◌, length, get_or, ℤ, Some, sym, refl, ap, ◌∙◌, subst, inl, inr, ⊎_elim, arith}
+use Rattle.std.specs.List.{Contains}
 use Rattle.std.proofs.lemmas.Bool.{cases_lt, eqb-true, eqb-false}
 use Rattle.lattice.specs.Order.{Order, Laws}
 use Rattle.push.specs.declared.instruction.Instruction.{Instruction}
@@ -18,7 +19,7 @@ use Rattle.job.specs.declared.claim.Place.{Place}
 use Rattle.job.specs.declared.claim.Place.TheVariants.{IntegerAt, BooleanAt}
 use Rattle.job.specs.Records.{Claimed, level}
 use Rattle.checker.specs.Rules.{ProgramWithClaims, exit}
-use Rattle.checker.specs.Region.{Among, Region, enter, next_labels, from_instruction}
+use Rattle.checker.specs.Region.{Region, enter, next_labels, from_instruction}
 use Rattle.checker.specs.WellClaimed.{Under, none, integer, boolean, Takes, at_exit, by_claim, Surrounded}
 use Rattle.checker.proofs.SoundFacts as sound
 use Rattle.checker.proofs.SoundFacts.{Levels}
@@ -71,7 +72,7 @@ module _ (o : Order) (laws : Laws o) (w : ℕ) (levels : List ℕ) (graded : Lev
     pair : PairAt junction left right
 
   module _ (l : ℕ) (c : Claimed) (below : l < exit job) (has : job.claim l ≡ Some c) where
-    rejoined : {i : Instruction} {ps qs : List Place} {s t : List Value} → fetch job.code l ≡ Some i → c.stack ≡ ps → ((next : ℕ) → Among next (successors i l) → Takes o job qs next) → Apart o w i ps qs s t → Levels o ps → (vs ws : List ℤ) → length vs ≡ 32 → length ws ≡ 32 → {j k : ℕ} {m n e f : Machine} → job.code ⊢ at l s vs ⟶ m → job.code ⊢ at l t ws ⟶ n → Steps job.code j m e → Steps job.code k n f → label_of e ≡ exit job → label_of f ≡ exit job → Rejoined j vs ws e f
+    rejoined : {i : Instruction} {ps qs : List Place} {s t : List Value} → fetch job.code l ≡ Some i → c.stack ≡ ps → ((next : ℕ) → Contains (successors i l) next → Takes o job qs next) → Apart o w i ps qs s t → Levels o ps → (vs ws : List ℤ) → length vs ≡ 32 → length ws ≡ 32 → {j k : ℕ} {m n e f : Machine} → job.code ⊢ at l s vs ⟶ m → job.code ⊢ at l t ws ⟶ n → Steps job.code j m e → Steps job.code k n f → label_of e ≡ exit job → label_of f ≡ exit job → Rejoined j vs ws e f
     rejoined at_l stack_is taken (apart {m = target} {j = junction} {g = g} {b = b} {d = d} {ps = ps} {s = s} {t = t} closed r) (sound.more hg ls) vs ws sized_left sized_right {m = m} {n = n} first second run_left run_right halts_left halts_right =
         let branch = acc.well.branches l below c (GotoF target junction) has at_l in
         let g_is : level (get_or c.stack 0 (IntegerAt 0)) ≡ g = ap (λ qs. level (get_or qs 0 (IntegerAt 0))) stack_is in
@@ -99,10 +100,10 @@ module _ (o : Order) (laws : Laws o) (w : ℕ) (levels : List ℕ) (graded : Lev
           pair = meet_at l junction g avoids raised closed left.there_at right.there_at r;
         }
       where
-        among : (q : Bool) → Among (cond q (l + 1) target) (next_labels job.code l)
-        among q = subst (λ x. Among (cond q (l + 1) target) (from_instruction x l)) (sym at_l) (either l target q)
+        among : (q : Bool) → Contains (next_labels job.code l) (cond q (l + 1) target)
+        among q = subst (λ x. Contains (from_instruction x l) (cond q (l + 1) target)) (sym at_l) (either l target q)
 
-        entered : (next : ℕ) (x : Bool) → eqb next junction ≡ x → Among next (next_labels job.code l) → (next ≡ junction) ⊎ Region job.code junction l next
+        entered : (next : ℕ) (x : Bool) → eqb next junction ≡ x → Contains (next_labels job.code l) next → (next ≡ junction) ⊎ Region job.code junction l next
         entered next true e a = inl (eqb-true next junction e)
         entered next false e a = inr (enter a (eqb-false next junction e))
 

@@ -1,6 +1,8 @@
 -- At a claimed label the stack has the claim's depth and kinds, and a step keeps this; so no run of an accepted job
 -- faults. Assumes the laws of the order.
 use Rattle.std.proofs.Common.{◌≡◌, ℕ, ◌+◌, ◌<◌, ◌≤◌, Bool, true, false, cond, not, ◌⊎◌, List, [], ◌∷◌, length, get_or, set, ℤ, pos, int_lt, Some, sym, refl, ap, ◌∙◌, subst, inl, inr, ⊎_elim, arith}
+use Rattle.std.specs.List.{Contains}
+use Rattle.checker.proofs.ContainsFacts.{contains_first, contains_rest, contains_cases, contains_none}
 use Rattle.std.proofs.lemmas.Bool.{cases_lt}
 use Rattle.lattice.specs.Order.{Order, Laws}
 use Rattle.push.specs.declared.instruction.Instruction.{Instruction}
@@ -20,7 +22,6 @@ use Rattle.job.specs.declared.claim.Place.{Place}
 use Rattle.job.specs.declared.claim.Place.TheVariants.{IntegerAt, BooleanAt}
 use Rattle.job.specs.Records.{Claimed}
 use Rattle.checker.specs.Rules.{ProgramWithClaims, exit}
-use Rattle.checker.specs.Region.{Among, here, there}
 use Rattle.checker.specs.Flow.{NeverFaults}
 use Rattle.checker.specs.WellClaimed.{Under, none, integer, boolean, Takes, at_exit, by_claim, WellClaimed}
 use Rattle.checker.proofs.SoundFacts as sound
@@ -58,24 +59,24 @@ record Goes (code : List Instruction) (i : Instruction) (l : ℕ) (s : List Valu
   stack : List Value
   values : List ℤ
   by_rule : code ⊢ at l s vs ⟶ at next stack values
-  among : Among next (successors i l)
+  among : Contains (successors i l) next
   fits : Fits qs stack
 
-pub either : (l m : ℕ) (b : Bool) → Among (cond b (l + 1) m) ((l + 1) ∷ m ∷ [])
-either l m true = here
-either l m false = there here
+pub either : (l m : ℕ) (b : Bool) → Contains ((l + 1) ∷ m ∷ []) (cond b (l + 1) m)
+either l m true = contains_first (l + 1) (m ∷ [])
+either l m false = contains_rest (l + 1) (m ∷ []) m (contains_first m [])
 
 module _ (o : Order) (levels : List ℕ) (code : List Instruction) (p l : ℕ) where
   goes : {i : Instruction} {ps qs : List Place} → fetch code l ≡ Some i → Leaves o levels p i ps qs → {s : List Value} (vs : List ℤ) → Fits ps s → Goes code i l s vs qs
-  goes at_l (leaving.load {v = v} {ps = ps} small room) {s} vs f = record { next = l + 1; stack = Int (get_or vs v (pos 0)) ∷ s; values = vs; by_rule = rule.load at_l small (omega (arith, fits_length f)); among = here; fits = fits_int f }
-  goes at_l (leaving.store {v = v} small up) vs (fits_int {x = t} {s = s} f) = record { next = l + 1; stack = s; values = set vs v t; by_rule = rule.store at_l small; among = here; fits = f }
-  goes at_l (leaving.push {x = x} room) {s} vs f = record { next = l + 1; stack = Int x ∷ s; values = vs; by_rule = rule.push at_l (omega (arith, fits_length f)); among = here; fits = fits_int f }
-  goes at_l leaving.add vs (fits_int {x = t} (fits_int {x = u} {s = s} f)) = record { next = l + 1; stack = Int (sum u t) ∷ s; values = vs; by_rule = rule.add at_l; among = here; fits = fits_int f }
-  goes at_l leaving.sub vs (fits_int {x = t} (fits_int {x = u} {s = s} f)) = record { next = l + 1; stack = Int (difference u t) ∷ s; values = vs; by_rule = rule.sub at_l; among = here; fits = fits_int f }
-  goes at_l leaving.eq vs (fits_int {x = t} (fits_int {x = u} {s = s} f)) = record { next = l + 1; stack = Flag (same u t) ∷ s; values = vs; by_rule = rule.eq at_l; among = here; fits = fits_flag f }
-  goes at_l leaving.less vs (fits_int {x = t} (fits_int {x = u} {s = s} f)) = record { next = l + 1; stack = Flag (int_lt u t) ∷ s; values = vs; by_rule = rule.less at_l; among = here; fits = fits_flag f }
-  goes at_l leaving.not vs (fits_flag {b = b} {s = s} f) = record { next = l + 1; stack = Flag (not b) ∷ s; values = vs; by_rule = rule.not at_l; among = here; fits = fits_flag f }
-  goes at_l (leaving.goto {m = m}) {s} vs f = record { next = m; stack = s; values = vs; by_rule = rule.goto at_l; among = here; fits = f }
+  goes at_l (leaving.load {v = v} {ps = ps} small room) {s} vs f = record { next = l + 1; stack = Int (get_or vs v (pos 0)) ∷ s; values = vs; by_rule = rule.load at_l small (omega (arith, fits_length f)); among = contains_first (l + 1) []; fits = fits_int f }
+  goes at_l (leaving.store {v = v} small up) vs (fits_int {x = t} {s = s} f) = record { next = l + 1; stack = s; values = set vs v t; by_rule = rule.store at_l small; among = contains_first (l + 1) []; fits = f }
+  goes at_l (leaving.push {x = x} room) {s} vs f = record { next = l + 1; stack = Int x ∷ s; values = vs; by_rule = rule.push at_l (omega (arith, fits_length f)); among = contains_first (l + 1) []; fits = fits_int f }
+  goes at_l leaving.add vs (fits_int {x = t} (fits_int {x = u} {s = s} f)) = record { next = l + 1; stack = Int (sum u t) ∷ s; values = vs; by_rule = rule.add at_l; among = contains_first (l + 1) []; fits = fits_int f }
+  goes at_l leaving.sub vs (fits_int {x = t} (fits_int {x = u} {s = s} f)) = record { next = l + 1; stack = Int (difference u t) ∷ s; values = vs; by_rule = rule.sub at_l; among = contains_first (l + 1) []; fits = fits_int f }
+  goes at_l leaving.eq vs (fits_int {x = t} (fits_int {x = u} {s = s} f)) = record { next = l + 1; stack = Flag (same u t) ∷ s; values = vs; by_rule = rule.eq at_l; among = contains_first (l + 1) []; fits = fits_flag f }
+  goes at_l leaving.less vs (fits_int {x = t} (fits_int {x = u} {s = s} f)) = record { next = l + 1; stack = Flag (int_lt u t) ∷ s; values = vs; by_rule = rule.less at_l; among = contains_first (l + 1) []; fits = fits_flag f }
+  goes at_l leaving.not vs (fits_flag {b = b} {s = s} f) = record { next = l + 1; stack = Flag (not b) ∷ s; values = vs; by_rule = rule.not at_l; among = contains_first (l + 1) []; fits = fits_flag f }
+  goes at_l (leaving.goto {m = m}) {s} vs f = record { next = m; stack = s; values = vs; by_rule = rule.goto at_l; among = contains_first m []; fits = f }
   goes at_l (leaving.gotof {m = m}) vs (fits_flag {b = b} {s = s} f) = record { next = cond b (l + 1) m; stack = s; values = vs; by_rule = rule.gotof at_l; among = either l m b; fits = f }
 
 -- What acceptance tells of a job.
@@ -84,30 +85,29 @@ pub record Accepted (o : Order) (levels : List ℕ) (job : ProgramWithClaims) : 
   pub sound : (label : ℕ) (i : Instruction) → fetch job.code label ≡ Some i → Sound (exit job) i
   pub leveled : (label : ℕ) (c : Claimed) → label < exit job → job.claim label ≡ Some c → (c.surrounding < o.span) × Levels o c.stack
 
-only : {x y : ℕ} → Among x (y ∷ []) → x ≡ y
-only here = refl
-only (there a) = elim a [ ]
+only : (x y : ℕ) → Contains (y ∷ []) x → x ≡ y
+only x y c = ⊎_elim (λ (e : x ≡ y). e) (λ (k : Contains [] x). absurd (contains_none x k)) (contains_cases y [] x c)
 
-successors_within : (n l next : ℕ) (i : Instruction) → Sound n i → l < n → Among next (successors i l) → next ≤ n
-successors_within n l next (Load v) h lt a = omega (arith, only a)
-successors_within n l next (Store v) h lt a = omega (arith, only a)
-successors_within n l next (Push x) h lt a = omega (arith, only a)
-successors_within n l next Add h lt a = omega (arith, only a)
-successors_within n l next Sub h lt a = omega (arith, only a)
-successors_within n l next Eq h lt a = omega (arith, only a)
-successors_within n l next Less h lt a = omega (arith, only a)
-successors_within n l next Not h lt a = omega (arith, only a)
-successors_within n l next (Goto m) (sound.goto h) lt a = omega (arith, only a)
-successors_within n l next (GotoF m j) (sound.gotof h) lt here = omega arith
-successors_within n l next (GotoF m j) (sound.gotof h) lt (there a) = omega (arith, only a)
+successors_within : (n l next : ℕ) (i : Instruction) → Sound n i → l < n → Contains (successors i l) next → next ≤ n
+successors_within n l next (Load v) h lt a = omega (arith, only next (l + 1) a)
+successors_within n l next (Store v) h lt a = omega (arith, only next (l + 1) a)
+successors_within n l next (Push x) h lt a = omega (arith, only next (l + 1) a)
+successors_within n l next Add h lt a = omega (arith, only next (l + 1) a)
+successors_within n l next Sub h lt a = omega (arith, only next (l + 1) a)
+successors_within n l next Eq h lt a = omega (arith, only next (l + 1) a)
+successors_within n l next Less h lt a = omega (arith, only next (l + 1) a)
+successors_within n l next Not h lt a = omega (arith, only next (l + 1) a)
+successors_within n l next (Goto m) (sound.goto h) lt a = omega (arith, only next m a)
+successors_within n l next (GotoF m j) (sound.gotof h) lt a =
+    ⊎_elim (λ (e : next ≡ l + 1). omega arith) (λ (k : Contains (m ∷ []) next). omega (arith, only next m k)) (contains_cases (l + 1) (m ∷ []) next a)
 
 module _ (o : Order) (laws : Laws o) (levels : List ℕ) (job : ProgramWithClaims) (acc : Accepted o levels job) where
   -- What a claimed label with an instruction leaves.
   pub record AtLabel (l : ℕ) (c : Claimed) (i : Instruction) : Type 0 where
     pub places : List Place
     pub left : Leaves o levels c.surrounding i c.stack places
-    pub taken : (next : ℕ) → Among next (successors i l) → Takes o job places next
-    within : (next : ℕ) → Among next (successors i l) → next ≤ exit job
+    pub taken : (next : ℕ) → Contains (successors i l) next → Takes o job places next
+    within : (next : ℕ) → Contains (successors i l) next → next ≤ exit job
 
   pub at_label : (l : ℕ) (c : Claimed) (i : Instruction) → l < exit job → job.claim l ≡ Some c → fetch job.code l ≡ Some i → AtLabel l c i
   at_label l c i lt has at_l =

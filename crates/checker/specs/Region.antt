@@ -1,5 +1,6 @@
 -- The region of a branch: as the least set that the rule names, and as a table of marks. Assumes nothing.
 use Rattle.std.specs.Prelude.{ℕ, zero, suc, ◌≤◌, Bool, true, false, if◌then◌else◌, ◌≢◌, ◌↔◌, IsTrue, List, [], ◌∷◌, length, replicate, Some, None, Option, ◌==◌, slice_index_or, slice_set}
+use Rattle.std.specs.List.{Contains}
 use Rattle.push.specs.declared.instruction.Instruction.{Instruction}
 use Rattle.push.specs.Code.{fetch}
 use Rattle.push.specs.Language.{successors}
@@ -12,17 +13,13 @@ from_instruction (Some i) label = successors i label
 abbrev pub next_labels : List Instruction → ℕ → List ℕ
 next_labels code label = from_instruction (fetch code label) label
 
-pub data Among : ℕ → List ℕ → Type 0 where
-  here : {x : ℕ} {xs : List ℕ} → Among x (x ∷ xs)
-  there : {x y : ℕ} {xs : List ℕ} → Among x xs → Among x (y ∷ xs)
-
 -- The least set that holds each label after the branch except the junction and, with each label, those after it except
 -- the junction.
 pub data Region (code : List Instruction) (junction branch : ℕ) : ℕ → Type 0 where
-  enter : {label : ℕ} → Among label (next_labels code branch) → label ≢ junction →
+  enter : {label : ℕ} → Contains (next_labels code branch) label → label ≢ junction →
       Region code junction branch label
   onward : {from label : ℕ} → Region code junction branch from →
-      Among label (next_labels code from) → label ≢ junction → Region code junction branch label
+      Contains (next_labels code from) label → label ≢ junction → Region code junction branch label
 
 -- The same set by marks at the labels 0 to 128.
 abbrev pub mark_all : ℕ → List ℕ → List Bool → List Bool

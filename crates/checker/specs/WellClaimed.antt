@@ -1,5 +1,6 @@
 -- What the claims of a job must satisfy, as relations, and what the verdict says of them. Assumes nothing.
 use Rattle.std.specs.Prelude.{◌≡◌, ℕ, ◌+◌, ◌<◌, ◌≤◌, IsTrue, ◌≢◌, ◌⊎◌, List, [], ◌∷◌, ◌++◌, map, length, Some, Ok, Err, slice_index, option_to_list}
+use Rattle.std.specs.List.{Contains}
 use Rattle.lattice.specs.Order.{Order}
 use Rattle.push.specs.declared.instruction.Instruction.{Instruction}
 use Rattle.push.specs.declared.instruction.Instruction.TheVariants.{Store, GotoF}
@@ -14,7 +15,7 @@ use Rattle.job.specs.Layout.{Sizes, opening, claim_record}
 use Rattle.job.specs.Records.{Claimed, kind, like_a_claim}
 use Rattle.checker.specs.Leaving.{level_at, joined_one, leaves}
 use Rattle.checker.specs.Rules.{ProgramWithClaims, exit}
-use Rattle.checker.specs.Region.{Among, Region}
+use Rattle.checker.specs.Region.{Region}
 use Rattle.checker.specs.Verdict.{instruction_at, job_in, verdict}
 
 -- A claimed stack begins with what the instruction pops, and what it leaves has at most eight places.
@@ -44,7 +45,7 @@ pub data Takes (o : Order) (job : ProgramWithClaims) (stack : List Place) (label
 
 abbrev pub SuccessorsTake : Order → List ℕ → ProgramWithClaims → ℕ → Claimed → Instruction → Type 0
 SuccessorsTake o levels job label c i =
-    (next : ℕ) → Among next (successors i label) → Takes o job (leaves o levels c i) next
+    (next : ℕ) → Contains (successors i label) next → Takes o job (leaves o levels c i) next
 
 -- The region of a branch does not hold the exit, and every label in it is surrounded by a level at least that of the
 -- boolean which the branch pops.
