@@ -15,7 +15,7 @@ use Rattle.checker.specs.Verdict.{verdict, decoded_code}
 use Rattle.controller.specs.State.{SetupState, ReadyState, mount_outcome, mounted as mounted_by}
 use Rattle.controller.specs.Lists as lists
 use Rattle.controller.specs.Lists.{Call, in_setup, is_ready, graded, mounted, was_set, seal, mount, transcript_from, transcript}
-use Rattle.report.specs.Input.{level, value, each, job, calls_then, all_levels, sealed, with_values}
+use Rattle.report.specs.Input.{level, value, each, job, all_levels, sealed, with_values}
 use Rattle.report.specs.Report.{bad_input, answers_text}
 
 -- a list of 32 that has what f says at each place
@@ -66,6 +66,10 @@ values_stay : (s : ReadyState) (v : ℕ × ℕ) (program : List Instruction) →
 values_stay s v program =
     let out : Bool → (ℕ × ℕ) × ReadyState = λ t. cond t (v, record { levels = s.levels; values = s.values; program = program }) (v, s) in
     elim (eqb v.0 0) as (λ t. (out t).1.values ≡ s.values) [ true ↦ refl | false ↦ refl ]
+
+-- the calls for an input, with others after its values are set
+abbrev pub calls_then : List ℕ → List Call → List Call
+calls_then bytes after = each (λ variable. lists.grade variable (level bytes variable)) ++ (seal ∷ mount (job bytes) ∷ (each (λ variable. lists.set variable (value bytes variable)) ++ after))
 
 module _ (o : Order) (bytes : List ℕ) (after : List Call) where
   -- the mount of the job on the graded and sealed controller

@@ -6,8 +6,8 @@ use Rattle.std.specs.declared.array.IntoIter.{IntoIter}
 use Rattle.std.specs.Iterator.{AlwaysYields}
 use Rattle.std.proofs.lemmas.Iterator.{YieldsList, IsCollectResult, items_from_drains}
 use Rattle.std.proofs.lemmas.Iterator.Consumers.{YieldsList-from_shown}
-use Rattle.controller.specs.Lists.{Call, grade, seal, mount, set}
-use Rattle.report.specs.Input.{each, level, value, calls_then, job as job_of}
+use Rattle.controller.specs.Lists.{Call, grade, seal, mount, set, start, advance, end, show}
+use Rattle.report.specs.Input.{each, level, value, observer, budget, calls, job as job_of}
 
 pub from_array : {A B : Type 0} (v : A → B) {n : ℕ} (s : IntoIter A n) (xs : List A) → array_into_iter_items s ≡ xs → YieldsList (array_steps {A = A} {n = n}) v s (map v xs)
 from_array {A} v {n} s xs e =
@@ -26,8 +26,12 @@ always_viewed steps v w (x ∷ xs) s all = (all.0, λ y t step. let next = all.1
 pub viewed : {S A B C : Type 0} {steps : S → Option A → S → Type 0} {v : A → B} {s : S} {xs : List B} (w : B → C) → YieldsList steps v s xs → YieldsList steps (λ x. w (v x)) s (map w xs)
 viewed {steps = steps} {v = v} {s = s} {xs = xs} w all = record { runs = always_viewed steps v w xs s all.runs }
 
+-- The calls of one run and a show.
+abbrev pub run_calls : ℕ → ℕ → List Call
+run_calls limit w = start ∷ advance limit ∷ end ∷ show w 160 ∷ []
+
 -- The parts of the chain are the whole list.
-pub all_parts : (bytes job : List ℕ) (after : List Call) → job ≡ job_of bytes → ((each (λ v. grade v (level bytes v)) ++ (seal ∷ mount job ∷ [])) ++ each (λ v. set v (value bytes v))) ++ after ≡ calls_then bytes after
-all_parts bytes job after j =
-    (λ i. ((each (λ v. grade v (level bytes v)) ++ (seal ∷ mount (j i) ∷ [])) ++ each (λ v. set v (value bytes v))) ++ after)
+pub all_parts : (bytes job : List ℕ) (limit w : ℕ) → job ≡ job_of bytes → limit ≡ budget bytes → w ≡ observer bytes → ((each (λ v. grade v (level bytes v)) ++ (seal ∷ mount job ∷ [])) ++ each (λ v. set v (value bytes v))) ++ run_calls limit w ≡ calls bytes
+all_parts bytes job limit w j l o =
+    (λ i. ((each (λ v. grade v (level bytes v)) ++ (seal ∷ mount (j i) ∷ [])) ++ each (λ v. set v (value bytes v))) ++ run_calls (l i) (o i))
     ∙ simp append_assoc

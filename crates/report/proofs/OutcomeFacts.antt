@@ -8,8 +8,8 @@ use Rattle.controller.specs.Sheet.{open_count, sheet, show_outcome}
 use Rattle.controller.specs.Lists.{mounted, started, advanced, ended, start, advance, end, show, sheet_shown}
 use Rattle.controller.proofs.SheetFacts.{open_at_most, length_lines}
 use Rattle.report.specs.Input.{fits, kind, all_levels, observer, budget}
-use Rattle.report.specs.Report.{bad_input, mount_line, run_line, end_line, sheet_text, answers_text, text_by_kind, report_over}
-use Rattle.report.specs.Outcomes.{mounting, running, ending, told_over, TellsTheOutcomes}
+use Rattle.report.specs.Report.{bad_input, mount_line, run_line, end_line, sheet_text, answers_text, text_by_kind, transcript_text}
+use Rattle.report.specs.Outcomes.{mounting, running, ending, outcomes_text, ReportIsTheOutcomes}
 use Rattle.report.proofs.AfterFacts.{text_of_calls}
 
 -- a show into a buffer that any sheet fits
@@ -32,8 +32,8 @@ both : (a b : Bool) (x y : List ℕ) → cond a (cond b x y) y ≡ cond (a && b)
 both true b x y = refl
 both false b x y = refl
 
-told : (o : Order) (bytes : List ℕ) → report_over o bytes ≡ told_over o bytes
-told o bytes =
+by_outcomes : (o : Order) (bytes : List ℕ) → transcript_text o bytes ≡ outcomes_text o bytes
+by_outcomes o bytes =
     let w = observer bytes in
     text_of_calls o bytes (start ∷ advance (budget bytes) ∷ end ∷ show w 160 ∷ [])
     ∙ ap (λ text. cond (all_levels o bytes) text bad_input) (shown_whole o (mounting o bytes).0 (running o bytes).0 (ending o bytes).0 (ending o bytes).1 w (replicate 160 0) (omega (arith, length-replicate {A = ℕ} 160 0)))
@@ -43,6 +43,6 @@ same_by_kind : (over under : Order → List ℕ → List ℕ) (bytes : List ℕ)
 same_by_kind over under bytes same None = refl
 same_by_kind over under bytes same (Some o) = same o
 
-pub tells_the_outcomes : (bytes : List ℕ) → TellsTheOutcomes bytes
-tells_the_outcomes bytes =
-    ap (λ text. cond (fits bytes) text bad_input) (same_by_kind report_over told_over bytes (λ o. told o bytes) (kind (slice_index bytes 0)))
+pub report_is_the_outcomes : (bytes : List ℕ) → ReportIsTheOutcomes bytes
+report_is_the_outcomes bytes =
+    ap (λ text. cond (fits bytes) text bad_input) (same_by_kind transcript_text outcomes_text bytes (λ o. by_outcomes o bytes) (kind (slice_index bytes 0)))

@@ -1,5 +1,5 @@
 -- Where the fields of an input stand, and what is done with them. Assumes nothing.
-use Rattle.std.specs.Prelude.{ℕ, ◌+◌, ◌*◌, Bool, cond, ◌&&◌, List, [], ◌∷◌, ◌++◌, map, length, drop, ℤ, Some, None, Option, ◌==◌, nat_le, nat_lt, slice_index}
+use Rattle.std.specs.Prelude.{ℕ, ◌+◌, ◌*◌, Bool, if◌then◌else◌, ◌&&◌, List, [], ◌∷◌, ◌++◌, map, length, drop, ℤ, Some, None, Option, ◌==◌, nat_le, nat_lt, slice_index}
 use Rattle.std.specs.Int.{w32, cast_signed}
 use Rattle.std.specs.List.{range_with_len}
 use Rattle.lattice.specs.Order.{Order}
@@ -14,25 +14,30 @@ fits bytes = nat_le 199 (length bytes) && nat_le (length bytes) 4555
 -- The lattice that a kind byte names.
 abbrev pub kind : ℕ → Option Order
 kind byte =
-    cond (byte == 0) (Some (ladder 16))
-    (cond (byte == 1) (Some (owners 4)) (cond (byte == 2) (Some (pair (ladder 4) (flip (ladder 4)))) None))
+    if byte == 0 then Some (ladder 16)
+    else (if byte == 1 then Some (owners 4)
+    else (if byte == 2 then Some (pair (ladder 4) (flip (ladder 4))) else None))
 
 -- A variable's level: two bytes, lower byte first.
 abbrev pub level : List ℕ → ℕ → ℕ
-level bytes variable = slice_index bytes (1 + 2 * variable) + slice_index bytes (2 + 2 * variable) * 256
+level bytes variable =
+    slice_index bytes (1 + 2 * variable) + slice_index bytes (2 + 2 * variable) * 256
 
 -- A variable's value: four bytes, lower byte first, signed.
 abbrev pub value : List ℕ → ℕ → ℤ
 value bytes variable =
     cast_signed w32
-    (slice_index bytes (65 + 4 * variable) + slice_index bytes (66 + 4 * variable) * 256 + slice_index bytes (67 + 4 * variable) * 65536
+    (slice_index bytes (65 + 4 * variable) + slice_index bytes (66 + 4 * variable) * 256
+    + slice_index bytes (67 + 4 * variable) * 65536
     + slice_index bytes (68 + 4 * variable) * 16777216)
 
 abbrev pub observer : List ℕ → ℕ
 observer bytes = slice_index bytes 193 + slice_index bytes 194 * 256
 
 abbrev pub budget : List ℕ → ℕ
-budget bytes = slice_index bytes 195 + slice_index bytes 196 * 256 + slice_index bytes 197 * 65536 + slice_index bytes 198 * 16777216
+budget bytes =
+    slice_index bytes 195 + slice_index bytes 196 * 256 + slice_index bytes 197 * 65536
+    + slice_index bytes 198 * 16777216
 
 abbrev pub job : List ℕ → List ℕ
 job bytes = drop 199 bytes
@@ -41,16 +46,15 @@ job bytes = drop 199 bytes
 unfoldable pub each : {X : Type 0} → (ℕ → X) → List X
 each f = map f (range_with_len 0 32)
 
--- What is done with an input: every variable is graded, the controller sealed, the job mounted and every variable set, and then
--- other calls are made.
-abbrev pub calls_then : List ℕ → List Call → List Call
-calls_then bytes after =
-    each (λ variable. grade variable (level bytes variable))
-    ++ (seal ∷ mount (job bytes) ∷ (each (λ variable. set variable (value bytes variable)) ++ after))
-
--- For a report these are one run with the budget, and the observer's sheet by way of a buffer that any sheet fits.
+-- What is done with an input: every variable is graded, the controller sealed, the job mounted and
+-- every variable set; then comes one run with the budget, and the observer's sheet by way of a buffer
+-- that any sheet fits.
 abbrev pub calls : List ℕ → List Call
-calls bytes = calls_then bytes (start ∷ advance (budget bytes) ∷ end ∷ show (observer bytes) 160 ∷ [])
+calls bytes =
+    each (λ variable. grade variable (level bytes variable))
+    ++ (seal ∷ mount (job bytes)
+    ∷ (each (λ variable. set variable (value bytes variable))
+    ++ (start ∷ advance (budget bytes) ∷ end ∷ show (observer bytes) 160 ∷ [])))
 
 -- Whether every level is a level of the lattice.
 abbrev pub all_levels : Order → List ℕ → Bool
@@ -61,4 +65,5 @@ abbrev pub sealed : List ℕ → ReadyState
 sealed bytes = sealed_state (record { levels = each (level bytes) })
 
 abbrev pub with_values : List ℕ → ReadyState → ReadyState
-with_values bytes s = record { levels = s.levels; values = each (value bytes); program = s.program }
+with_values bytes s =
+    record { levels = s.levels; values = each (value bytes); program = s.program }

@@ -1,4 +1,4 @@
--- The plain meaning of the kinds of lattice, and of what is told of an input. Assumes nothing.
+-- The plain meaning of the kinds of lattice, and of what is made of an input. Assumes nothing.
 use Rattle.std.specs.Prelude.{◌≡◌, ℕ, List, Some, None, Ok, Err, Option, Result, String, string_bytes, ⊤}
 use Rattle.lattice.specs.Order.{Order}
 use Rattle.lattice.specs.Kinds.{ladder, owners, flip, pair}
@@ -19,12 +19,13 @@ abbrev pub kind_read : Result Kind NoKind → Option Order
 kind_read (Ok named) = Some (order_of named)
 kind_read (Err _) = None
 
--- What a kind byte is read as.
-abbrev pub Reads : ℕ → Result Kind NoKind → Type 0
-Reads byte read = kind_read read ≡ kind byte
+-- A kind byte is read as the kind whose lattice it names, and as none where it names none.
+abbrev pub ReadsKind : ℕ → Result Kind NoKind → Type 0
+ReadsKind byte read = kind_read read ≡ kind byte
 
--- What is told of an input with that text: the text, or that it is no input. Nothing is said where memory ran out.
-abbrev pub Tells : {Z : Type 0} → Result (String Z) NoReport → List ℕ → Type 0
-Tells (Ok told) text = string_bytes told ≡ text
-Tells (Err NoInput) text = text ≡ bad_input
-Tells (Err (NoMemory _)) text = ⊤
+-- What was made is that text, or the error that says that the text is the line of no input. Nothing is
+-- said where memory ran out.
+abbrev pub IsTextUnlessNoMemory : {Z : Type 0} → Result (String Z) NoReport → List ℕ → Type 0
+IsTextUnlessNoMemory (Ok made) text = string_bytes made ≡ text
+IsTextUnlessNoMemory (Err NoInput) text = text ≡ bad_input
+IsTextUnlessNoMemory (Err (NoMemory _)) text = ⊤

@@ -1,12 +1,13 @@
 -- What a report says, in the outcomes that the controller's calls promise. Assumes nothing.
-use Rattle.std.specs.Prelude.{◌≡◌, ℕ, cond, ◌&&◌, List, ◌++◌, nat_lt}
+use Rattle.std.specs.Prelude.{◌≡◌, ℕ, if◌then◌else◌, ◌&&◌, List, ◌++◌, nat_lt}
 use Rattle.lattice.specs.Order.{Order}
 use Rattle.controller.specs.State.{ReadyState, RunningState, mount_outcome, started_state, advance_outcome, end_outcome}
 use Rattle.controller.specs.Sheet.{open_count, sheet}
 use Rattle.report.specs.Input.{observer, budget, job, all_levels, sealed, with_values}
 use Rattle.report.specs.Report.{bad_input, sheet_text, mount_line, run_line, end_line, input_text, report}
 
--- The job mounted on the graded and sealed controller; its run on the input's values, advanced once; and the end of that.
+-- The job mounted on the graded and sealed controller; its run on the input's values, advanced once;
+-- and the end of that.
 abbrev pub mounting : Order → List ℕ → (ℕ × ℕ) × ReadyState
 mounting o bytes = mount_outcome o (sealed bytes) (job bytes)
 
@@ -22,10 +23,13 @@ outcome_lines o bytes =
     mount_line (mounting o bytes).0
     ++ (run_line (running o bytes).0
     ++ (end_line (ending o bytes).0
-    ++ sheet_text (open_count o (ending o bytes).1 (observer bytes)) (sheet o (ending o bytes).1 (observer bytes))))
+    ++ sheet_text (open_count o (ending o bytes).1 (observer bytes))
+    (sheet o (ending o bytes).1 (observer bytes))))
 
-abbrev pub told_over : Order → List ℕ → List ℕ
-told_over o bytes = cond (all_levels o bytes && nat_lt (observer bytes) o.span) (outcome_lines o bytes) bad_input
+-- The text of an input over a lattice: these lines, where every level and the observer are levels.
+abbrev pub outcomes_text : Order → List ℕ → List ℕ
+outcomes_text o bytes =
+    if all_levels o bytes && nat_lt (observer bytes) o.span then outcome_lines o bytes else bad_input
 
-abbrev pub TellsTheOutcomes : List ℕ → Type 0
-TellsTheOutcomes bytes = report bytes ≡ input_text told_over bytes
+abbrev pub ReportIsTheOutcomes : List ℕ → Type 0
+ReportIsTheOutcomes bytes = report bytes ≡ input_text outcomes_text bytes

@@ -1,11 +1,11 @@
 -- The report's bytes. Assumes nothing.
-use Rattle.std.specs.Prelude.{ℕ, ◌+◌, ◌*◌, Bool, false, cond, not, List, [], ◌∷◌, ◌++◌, ℤ, Some, None, codes, decimal, Option, ◌==◌, slice_index}
+use Rattle.std.specs.Prelude.{ℕ, ◌+◌, ◌*◌, Bool, false, if◌then◌else◌, not, List, [], ◌∷◌, ◌++◌, ℤ, Some, None, codes, decimal, Option, ◌==◌, slice_index}
 use Rattle.std.specs.Int.{w32, cast_signed}
 use Rattle.std.specs.Fmt.{signed_decimal}
 use Rattle.std.specs.List.{flat_map, list_any}
 use Rattle.lattice.specs.Order.{Order}
-use Rattle.controller.specs.Lists.{Call, Answer, graded, sealed, mounted, was_set, was_read, shown, started, advanced, ended, unsealed, not_allowed, transcript}
-use Rattle.report.specs.Input.{fits, kind, calls, calls_then}
+use Rattle.controller.specs.Lists.{Answer, graded, mounted, shown, advanced, ended, transcript}
+use Rattle.report.specs.Input.{fits, kind, calls}
 
 abbrev pub bad_input : List ℕ
 bad_input = codes "input\n"
@@ -16,12 +16,9 @@ row variable value = decimal variable ++ (32 ∷ (signed_decimal value ++ (10 �
 
 -- The rows of a sheet's lines.
 unfoldable pub rows : List ℕ → List ℕ
-rows [] = []
-rows (_ ∷ []) = []
-rows (_ ∷ _ ∷ []) = []
-rows (_ ∷ _ ∷ _ ∷ []) = []
-rows (_ ∷ _ ∷ _ ∷ _ ∷ []) = []
-rows (variable ∷ b0 ∷ b1 ∷ b2 ∷ b3 ∷ lines) = row variable (cast_signed w32 (b0 + b1 * 256 + b2 * 65536 + b3 * 16777216)) ++ rows lines
+rows (variable ∷ b0 ∷ b1 ∷ b2 ∷ b3 ∷ lines) =
+    row variable (cast_signed w32 (b0 + b1 * 256 + b2 * 65536 + b3 * 16777216)) ++ rows lines
+rows _ = []
 
 -- The text of a sheet with so many lines.
 abbrev pub sheet_text : ℕ → List ℕ → List ℕ
@@ -39,49 +36,34 @@ end_line answer = codes "end " ++ (decimal answer ++ (10 ∷ []))
 
 -- The lines of an answer; most calls have none.
 abbrev pub answer_lines : Answer → List ℕ
-answer_lines (graded _) = []
-answer_lines sealed = []
 answer_lines (mounted answer) = mount_line answer
-answer_lines (was_set _) = []
-answer_lines (was_read _) = []
-answer_lines (shown answer bytes) = cond (answer.0 == 0) (sheet_text answer.1 bytes) []
-answer_lines started = []
 answer_lines (advanced answer) = run_line answer
 answer_lines (ended answer) = end_line answer
-answer_lines unsealed = []
-answer_lines (not_allowed _) = []
+answer_lines (shown answer bytes) = if answer.0 == 0 then sheet_text answer.1 bytes else []
+answer_lines _ = []
 
 -- A level or an observer that is no level makes an input bad: a grade or a show is refused.
 abbrev pub is_refused : Answer → Bool
 is_refused (graded number) = not (number == 0)
-is_refused sealed = false
-is_refused (mounted _) = false
-is_refused (was_set _) = false
-is_refused (was_read _) = false
 is_refused (shown answer _) = not (answer.0 == 0)
-is_refused started = false
-is_refused (advanced _) = false
-is_refused (ended _) = false
-is_refused unsealed = false
-is_refused (not_allowed _) = false
+is_refused _ = false
 
 abbrev pub answers_text : List Answer → List ℕ
-answers_text answers = cond (list_any is_refused answers) bad_input (flat_map answer_lines answers)
+answers_text answers =
+    if list_any is_refused answers then bad_input else flat_map answer_lines answers
 
--- What is written of an input where those calls are made after its values are set.
-abbrev pub text_after : List Call → Order → List ℕ → List ℕ
-text_after after o bytes = answers_text (transcript o (calls_then bytes after))
+-- The text of an input over a lattice: that of the transcript of its calls.
+abbrev pub transcript_text : Order → List ℕ → List ℕ
+transcript_text o bytes = answers_text (transcript o (calls bytes))
 
-abbrev pub report_over : Order → List ℕ → List ℕ
-report_over o bytes = answers_text (transcript o (calls bytes))
-
--- What is written of an input, where so is written over the lattice that it names.
+-- The text of an input, where its text over a lattice is given: that over the lattice that it names.
 abbrev pub text_by_kind : (Order → List ℕ → List ℕ) → Option Order → List ℕ → List ℕ
-text_by_kind over None bytes = bad_input
-text_by_kind over (Some o) bytes = over o bytes
+text_by_kind text_over (Some o) bytes = text_over o bytes
+text_by_kind text_over None bytes = bad_input
 
 abbrev pub input_text : (Order → List ℕ → List ℕ) → List ℕ → List ℕ
-input_text over bytes = cond (fits bytes) (text_by_kind over (kind (slice_index bytes 0)) bytes) bad_input
+input_text text_over bytes =
+    if fits bytes then text_by_kind text_over (kind (slice_index bytes 0)) bytes else bad_input
 
 abbrev pub report : List ℕ → List ℕ
-report bytes = input_text report_over bytes
+report bytes = input_text transcript_text bytes

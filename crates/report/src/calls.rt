@@ -1,10 +1,10 @@
 ghost use Rattle.std.specs.Prelude.{◌≡◌, map, IfOk};
 ghost use Rattle.controller.specs.Lists.{grade as grade_of, set as set_of};
 ghost use Rattle.controller.specs.Of.{call_of};
-ghost use Rattle.report.specs.Input.{level, value, calls_then};
+ghost use Rattle.report.specs.Input.{level, value, calls as calls_of};
 
 use crate::input::Input;
-use controller::{Call, VARIABLES};
+use controller::{Call, SHEET, VARIABLES};
 use std::alloc::{AllocError, Global};
 
 // The call that grades a variable by the level that the input gives it. A function, as `set` is: a closure that makes a
@@ -28,18 +28,23 @@ fn set<'x>(input: &Input<'x>, variable: u8) -> Call<'x>
     }
 }
 
-// The calls that are made for an input: those that grade, seal, mount and set, and then others.
-pub fn calls<'x>(
-    heap: Global,
-    input: &Input<'x>,
-    after: &[Call<'x>],
-) -> Result<Vec<Call<'x>>, AllocError>
-    ensures { IfOk result (λ calls. map call_of calls.items ≡ calls_then input.now.bytes.now (map call_of after.now)) }
+/// The calls that are made for an input: those that grade, seal, mount and set, and then those of one run and a show.
+pub fn calls<'x>(heap: Global, input: &Input<'x>) -> Result<Vec<Call<'x>>, AllocError>
+    ensures { IfOk result (λ calls. map call_of calls.items ≡ calls_of input.now.bytes.now) }
 {
+    let run = [
+        Call::Start,
+        Call::Advance(input.budget()),
+        Call::End,
+        Call::Show {
+            observer: input.observer(),
+            length: SHEET,
+        },
+    ];
     (0..VARIABLES as u8)
         .map(|variable| grade(input, variable))
         .chain([Call::Seal, Call::Mount(input.job())])
         .chain((0..VARIABLES as u8).map(|variable| set(input, variable)))
-        .chain(after.iter().copied())
+        .chain(run)
         .collect(heap)
 }

@@ -1,4 +1,5 @@
-// From the bytes of a bench input to a list of calls, and from its transcript to the text of a report.
+//! From the bytes of a bench input to a list of calls on a controller, and from the transcript of that list to the text
+//! of a report. The programs `bench` and `conformance` print and compare that text.
 #![tactic(auto)]
 
 mod calls;
@@ -8,4 +9,4 @@ mod no_report;
 mod text;
 
 pub use input::Input;
-pub use kinds::{report, report_after};
+pub use kinds::report;
