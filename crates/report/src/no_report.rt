@@ -3,13 +3,16 @@ ghost use Rattle.report.specs.declared.no_report.NoReport.TheVariants.{NoInput, 
 
 use crate::kinds::NoKind;
 use std::alloc::AllocError;
+use thiserror::Error;
 
-// Why there is no report.
-#[derive(Clone, Copy, PartialEq, Eq, Debug)]
+/// Why there is no text of answers.
+#[derive(Clone, Copy, PartialEq, Eq, Debug, Error)]
 pub enum NoReport {
-    // The bytes are no input.
+    /// The bytes are no input: their length, their kind or one of their levels is none.
+    #[error("the bytes are no input")]
     NoInput,
-    // There is no memory left.
+    /// There is no memory left.
+    #[error(transparent)]
     NoMemory(AllocError),
 }
 
