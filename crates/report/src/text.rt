@@ -9,7 +9,7 @@ use checker::{MountFault, mount_answer};
 use controller::{Answer, LINE};
 use std::alloc::{AllocError, Global};
 
-// The line of what is no input.
+/// The line of what is no input.
 pub fn bad_input(heap: Global) -> Result<String, AllocError>
     ensures { IfOk result (λ t. string_bytes t ≡ bad_input_text) }
 {
@@ -63,7 +63,8 @@ fn is_refused(answer: &Answer) -> bool
     matches!(answer, Answer::Graded(Err(_)) | Answer::Shown(Err(_)))
 }
 
-// The text of a list of answers. Where a grade or a show was refused, there was no input.
+/// The text of a list of answers. Where a grade or a show was refused, a level or the observer was none, so there was
+/// no input.
 pub fn answers_text(heap: Global, answers: &[Answer]) -> Result<String, NoReport>
     ensures { IsTextUnlessNoMemory result (answers_text_of (map answer_of answers.now)) }
 {

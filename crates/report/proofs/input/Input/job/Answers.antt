@@ -10,4 +10,6 @@ rest_or_none xs n None none e got =
 rest_or_none xs n (Some rest) none e got = got.0.2 ∙ take_rest xs n
 
 pub returns : goal.returns
-returns c = rw c.unwrap_or.ensures (rest_or_none c.args.self.now.bytes.now 199 c.get.result _ refl c.get.ensures.lookup)
+returns c = record {
+  job_is_the_rest = rw c.unwrap_or.ensures (rest_or_none c.args.self.now.bytes.now 199 c.get.result _ refl c.get.ensures.lookup);
+}
