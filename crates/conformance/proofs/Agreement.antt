@@ -3,6 +3,7 @@ use Rattle.std.proofs.Common.{◌≡◌, ℕ, ◌+◌, true, false, cond, eqb, L
 use Rattle.std.specs.List.{count_by}
 use Rattle.std.proofs.lemmas.Slice.Eq.{bytes_eq-Decides}
 use Rattle.std.proofs.lemmas.List.{nil_from_length}
+use Rattle.std.proofs.lemmas.List.Elements.{All-nil, All-cons}
 use Rattle.std.proofs.lemmas.List.Sums.{count_by-le-length, sum_by-cons}
 use Rattle.std.proofs.lemmas.Bool.{cases_Bool, cond-true, cond-false, and_parts, eqb-true}
 use Rattle.report.specs.Report.{report}
@@ -17,11 +18,15 @@ agrees_says : (trial : Trial) → agrees trial ≡ true → report trial.0 ≡ t
 unfolding agrees
 agrees_says trial h = (bytes_eq-Decides (report trial.0) trial.1).0 h
 
+-- a case whose report is the expected text
+abbrev IsReported : Trial → Type 0
+IsReported trial = report trial.0 ≡ trial.1
+
 all_agree : (trials : List Trial) → count_by agrees trials ≡ length trials → Conforms trials
-all_agree [] e = tt
+all_agree [] e = All-nil IsReported
 all_agree (trial ∷ trials) e =
     ⊎_elim
-    (λ (h : agrees trial ≡ true). (agrees_says trial h, all_agree trials (omega (arith, e, count_more trial trials, cond-true {A = ℕ} (agrees trial) 1 0 h))))
+    (λ (h : agrees trial ≡ true). All-cons IsReported trial trials (agrees_says trial h) (all_agree trials (omega (arith, e, count_more trial trials, cond-true {A = ℕ} (agrees trial) 1 0 h))))
     (λ (h : agrees trial ≡ false). absurd (omega (arith, e, count_more trial trials, cond-false {A = ℕ} (agrees trial) 1 0 h, count_by-le-length agrees trials)))
     (cases_Bool (agrees trial))
 

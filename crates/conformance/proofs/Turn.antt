@@ -1,18 +1,19 @@
 -- What one case more does to a tally. Assumes nothing.
 use Rattle.std.proofs.Common.{◌≡◌, ℕ, suc, ◌+◌, ◌^◌, ◌<◌, Bool, true, false, List, [], ◌∷◌, length, Some, None, Option, sym, refl, ap, ◌∙◌, arith}
 use Rattle.std.specs.List.{count_by}
+use Rattle.std.specs.Option.{option_or}
 use Rattle.std.proofs.lemmas.Bool.{cond-true, cond-false}
 use Rattle.conformance.specs.Table.{Trial, next_case, cases}
-use Rattle.conformance.specs.Found.{Found, agrees, first_differing, found, or_else, noted}
+use Rattle.conformance.specs.Found.{Found, agrees, first_differing, found, noted}
 use Rattle.conformance.proofs.Agreement.{count_more}
 use Rattle.conformance.proofs.Walk.{was_some, cases_more, cases_few}
 
 -- What was found, with some cases more at the end.
 abbrev pub onward : Found → List Trial → Found
 onward before trials =
-    record { run = before.run + length trials; agreed = before.agreed + count_by agrees trials; differs = or_else before.differs (first_differing before.run trials) }
+    record { run = before.run + length trials; agreed = before.agreed + count_by agrees trials; differs = option_or before.differs (first_differing before.run trials) }
 
-or_none : (d : Option (ℕ × Trial)) → or_else d None ≡ d
+or_none : (d : Option (ℕ × Trial)) → option_or d None ≡ d
 or_none None = refl
 or_none (Some x) = refl
 
@@ -28,7 +29,7 @@ onward_first trials =
     let agreed : 0 + count_by agrees trials ≡ count_by agrees trials = omega arith in
     λ i. record { run = run i; agreed = agreed i; differs = first_differing 0 trials }
 
-or_twice : (d : Option (ℕ × Trial)) (x : ℕ × Trial) (later : Option (ℕ × Trial)) → or_else (or_else d (Some x)) later ≡ or_else d (Some x)
+or_twice : (d : Option (ℕ × Trial)) (x : ℕ × Trial) (later : Option (ℕ × Trial)) → option_or (option_or d (Some x)) later ≡ option_or d (Some x)
 or_twice None x later = refl
 or_twice (Some y) x later = refl
 
@@ -37,12 +38,12 @@ onward_noted s trial trials true e =
     let run : s.run + 1 + length trials ≡ s.run + suc (length trials) = omega arith in
     let counted : s.agreed + 1 + count_by agrees trials ≡ s.agreed + count_by agrees (trial ∷ trials) = omega (arith, count_more trial trials, cond-true {A = ℕ} (agrees trial) 1 0 (sym e)) in
     let later = sym (cond-true (agrees trial) (first_differing (s.run + 1) trials) (Some (s.run, trial)) (sym e)) in
-    λ i. record { run = run i; agreed = counted i; differs = or_else s.differs (later i) }
+    λ i. record { run = run i; agreed = counted i; differs = option_or s.differs (later i) }
 onward_noted s trial trials false e =
     let run : s.run + 1 + length trials ≡ s.run + suc (length trials) = omega arith in
     let counted : s.agreed + count_by agrees trials ≡ s.agreed + count_by agrees (trial ∷ trials) = omega (arith, count_more trial trials, cond-false {A = ℕ} (agrees trial) 1 0 (sym e)) in
     let this = sym (cond-false (agrees trial) (first_differing (s.run + 1) trials) (Some (s.run, trial)) (sym e)) in
-    let differs = or_twice s.differs (s.run, trial) (first_differing (s.run + 1) trials) ∙ ap (or_else s.differs) this in
+    let differs = or_twice s.differs (s.run, trial) (first_differing (s.run + 1) trials) ∙ ap (option_or s.differs) this in
     λ i. record { run = run i; agreed = counted i; differs = differs i }
 
 -- One case more is counted: what is to be found of all cases is the same.

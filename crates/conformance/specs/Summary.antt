@@ -1,5 +1,5 @@
 -- The summary's bytes. Assumes nothing.
-use Rattle.std.specs.Prelude.{ℕ, Bool, cond, ◌&&◌, List, [], ◌++◌, length, Some, None, codes, decimal, Option, ◌==◌}
+use Rattle.std.specs.Prelude.{ℕ, Bool, if◌then◌else◌, ◌&&◌, List, [], ◌++◌, length, Some, None, codes, decimal, Option, ◌==◌}
 use Rattle.report.specs.Report.{report}
 use Rattle.conformance.specs.Table.{Trial, cases, left_over}
 use Rattle.conformance.specs.Found.{Found, found}
@@ -21,22 +21,26 @@ number_line number = codes "first that differs: case " ++ (decimal number ++ cod
 abbrev pub difference_text : Option (ℕ × Trial) → List ℕ
 difference_text None = codes "none differs\n"
 difference_text (Some differs) =
-    number_line differs.0 ++ (shown_text (codes "expected") differs.1.1 ++ shown_text (codes "given") (report differs.1.0))
+    number_line differs.0
+    ++ (shown_text (codes "expected") differs.1.1 ++ shown_text (codes "given") (report differs.1.0))
 
 -- A table that ends in the middle of a case is damaged.
 abbrev pub left_text : ℕ → List ℕ
-left_text left = cond (left == 0) [] (codes "damaged table: " ++ (decimal left ++ codes " bytes after the last whole case\n"))
+left_text left =
+    if left == 0
+    then []
+    else (codes "damaged table: " ++ (decimal left ++ codes " bytes after the last whole case\n"))
 
 abbrev pub summary_text : Found → ℕ → List ℕ
 summary_text f left = counts_text f.run f.agreed ++ (difference_text f.differs ++ left_text left)
 
 -- Whether every case agreed and the table is not damaged.
-abbrev pub clean : Found → ℕ → Bool
-clean f left = f.agreed == f.run && left == 0
+abbrev pub is_clean : Found → ℕ → Bool
+is_clean f left = f.agreed == f.run && left == 0
 
 -- The summary of a table, and whether it passes.
 abbrev pub summary : List ℕ → List ℕ
 summary table = summary_text (found (cases table)) (length (left_over table))
 
 abbrev pub passes : List ℕ → Bool
-passes table = clean (found (cases table)) (length (left_over table))
+passes table = is_clean (found (cases table)) (length (left_over table))

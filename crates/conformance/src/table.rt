@@ -6,26 +6,28 @@ ghost use Rattle.conformance.specs.Of.{case_bytes, case_read};
 use report::report;
 use std::alloc::{AllocError, Global};
 
-// A bench input and the report that is expected of it.
+/// A bench input and the report that is expected of it.
 #[derive(Clone, Copy)]
 pub struct Case<'a> {
+    /// The bytes that the bench would read; they may be no input.
     pub input: &'a [u8],
+    /// Every byte that the bench is to print.
     pub expected: &'a [u8],
 }
 
 impl Case<'_> {
-    // Whether the report on the input is the expected text, byte for byte.
+    /// Whether the report on the input is the expected text, byte for byte.
     pub fn agrees(&self, heap: Global) -> Result<bool, AllocError>
-        ensures { IfOk result (λ same. same ≡ agrees (case_bytes self.now)) }
+        ensures true_where_the_report_is_expected { IfOk result (λ same. same ≡ agrees (case_bytes self.now)) }
     {
         let given = report(heap, self.input)?;
         Ok(given.as_bytes() == self.expected)
     }
 }
 
-// The first case of a table and the bytes after it; none where the table ends before the case does.
+/// The first case of a table and the bytes after it; none where the table ends before the case does.
 pub fn next_case(table: &[u8]) -> Option<(Case<'_>, &[u8])>
-    ensures { case_read result ≡ next_case table.now }
+    ensures first_case_and_the_rest { case_read result ≡ next_case table.now }
 {
     let (&[i0, i1, e0, e1], rest) = table.split_first_chunk::<4>()?;
     let (input, rest) = rest.split_at_checked(usize::from(u16::from_le_bytes([i0, i1])))?;

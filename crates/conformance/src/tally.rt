@@ -3,13 +3,16 @@ ghost use Rattle.std.specs.Prelude.{◌≤◌};
 use crate::table::{Case, next_case};
 use std::alloc::{AllocError, Global};
 
-// What a run over a table found: the cases run, those that agreed, the first that differs with its number,
-// counted from 0, and the bytes left after the last whole case.
+/// What a run over the cases of a table found.
 #[derive(Clone, Copy)]
 pub struct Tally<'a> {
+    /// How many cases were run.
     pub run: usize,
+    /// How many of them agreed.
     pub agreed: usize,
+    /// The first that differs, with its number, counted from 0.
     pub differs: Option<(usize, Case<'a>)>,
+    /// How many bytes stand after the last whole case; any show a damaged table.
     pub left: usize,
     ghost agreed_were_run: { agreed ≤ run },
 }
@@ -18,13 +21,16 @@ impl<'a> Tally<'a> {
     ghost use Rattle.std.specs.Prelude.{◌≡◌, ◌+◌, ◌^◌, ◌<◌, length, IfOk, OnOk};
     ghost use Rattle.conformance.specs.Table.{cases, left_over};
     ghost use Rattle.conformance.specs.Found.{agrees, found as found_of, noted};
-    ghost use Rattle.conformance.specs.Summary.{clean};
+    ghost use Rattle.conformance.specs.Summary.{is_clean as is_clean_of};
     ghost use Rattle.conformance.specs.Of.{case_bytes, tally_found};
 
     // Runs one case more.
     fn note(&mut self, heap: Global, case: Case<'a>) -> Result<(), AllocError>
         requires { self.old.run + 1 < 2 ^ 64 }
-        ensures { OnOk result (tally_found self.new ≡ noted (tally_found self.old) (case_bytes case.entry) (agrees (case_bytes case.entry))) }
+        ensures {
+            OnOk result (tally_found self.new
+            ≡ noted (tally_found self.old) (case_bytes case.entry) (agrees (case_bytes case.entry)))
+        }
     {
         let number = self.run;
         self.run += 1;
@@ -36,10 +42,10 @@ impl<'a> Tally<'a> {
         Ok(())
     }
 
-    // Runs the cases of a table in their order. A loop and no iterator: the bytes after the last case are wanted too.
+    /// Runs the cases of a table in their order.
     pub fn count(heap: Global, table: &'a [u8]) -> Result<Tally<'a>, AllocError>
-        ensures found { IfOk result (λ t. tally_found t ≡ found_of (cases table.now)) }
-        ensures left { IfOk result (λ t. t.left ≡ length (left_over table.now)) }
+        ensures all_cases_are_run { IfOk result (λ t. tally_found t ≡ found_of (cases table.now)) }
+        ensures left_is_after_the_last_case { IfOk result (λ t. t.left ≡ length (left_over table.now)) }
     {
         let mut tally = Tally {
             run: 0,
@@ -47,6 +53,7 @@ impl<'a> Tally<'a> {
             differs: None,
             left: 0,
         };
+        // A loop and no iterator: the bytes after the last case are wanted too.
         let mut rest = table;
         while let Some((case, after)) = next_case(rest) {
             tally.note(heap, case)?;
@@ -56,9 +63,9 @@ impl<'a> Tally<'a> {
         Ok(tally)
     }
 
-    // Whether every case agreed and no byte is left over.
+    /// Whether every case agreed and no byte is left over.
     pub fn is_clean(&self) -> bool
-        ensures { result ≡ clean (tally_found self.now) self.now.left }
+        ensures true_where_all_agree_and_none_is_left { result ≡ is_clean_of (tally_found self.now) self.now.left }
     {
         self.agreed == self.run && self.left == 0
     }

@@ -10,7 +10,7 @@ note-requires c = room (tally_found c.loop-case.tally) c.args.table.now c.loop-c
 
 pub loop-case-smaller : goal.loop-case-smaller
 loop-case-smaller c =
-    let was = was_some c.loop-case.rest.now (case_bytes c.in-Some.case) c.in-Some.after.now c.in-Some.ensures in
+    let was = was_some c.loop-case.rest.now (case_bytes c.in-Some.case) c.in-Some.after.now c.in-Some.ensures.first_case_and_the_rest in
     let shorter = after_shorter c.loop-case.rest.now was.0 in
     let same : length c.in-Some.after.now ≡ length (after_case c.loop-case.rest.now) = ap length was.2 in
     omega arith
@@ -21,16 +21,16 @@ loop-case-init c = (onward_first _, refl)
 pub loop-case-preserved : goal.loop-case-preserved
 loop-case-preserved c =
     let trial = case_bytes c.in-Some.case in
-    let was = was_some c.loop-case.rest.now trial c.in-Some.after.now c.in-Some.ensures in
+    let was = was_some c.loop-case.rest.now trial c.in-Some.after.now c.in-Some.ensures.first_case_and_the_rest in
     let left = ap left_over was.2 ∙ sym (left_more c.loop-case.rest.now was.0) in
-    (turn (tally_found c.loop-case.tally) (tally_found c.note.new.self) _ c.loop-case.rest.now c.in-Some.after.now trial c.in-Some.ensures c.in_ok-note.ensures c.loop-case.invariant.0, left ∙ c.loop-case.invariant.1)
+    (turn (tally_found c.loop-case.tally) (tally_found c.note.new.self) _ c.loop-case.rest.now c.in-Some.after.now trial c.in-Some.ensures.first_case_and_the_rest c.in_ok-note.ensures c.loop-case.invariant.0, left ∙ c.loop-case.invariant.1)
 
 pub returns : goal.returns
 returns c =
     let so_far = tally_found c.loop-case.tally in
     let rest = c.loop-case.rest.now in
-    let none = was_none rest c.in_default.ensures in
+    let none = was_none rest c.in_default.ensures.first_case_and_the_rest in
     record {
-      found = sym (onward_none so_far) ∙ ap (onward so_far) (sym (cases_none rest none)) ∙ c.loop-case.invariant.0;
-      left = ap length (sym (left_none rest none) ∙ c.loop-case.invariant.1);
+      all_cases_are_run = sym (onward_none so_far) ∙ ap (onward so_far) (sym (cases_none rest none)) ∙ c.loop-case.invariant.0;
+      left_is_after_the_last_case = ap length (sym (left_none rest none) ∙ c.loop-case.invariant.1);
     }
