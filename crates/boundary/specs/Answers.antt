@@ -1,6 +1,6 @@
 -- What the functions for C answer: the verdict on a job in one number, and the end of its run in one number.
 -- Assumes nothing.
-use Rattle.std.specs.Prelude.{ℕ, ◌+◌, ◌*◌, cond, List, replicate, ℤ, pos, ◌==◌}
+use Rattle.std.specs.Prelude.{ℕ, ◌+◌, ◌*◌, if◌then◌else◌, List, replicate, ℤ, pos, ◌==◌}
 use Rattle.lattice.specs.Kinds.{ladder}
 use Rattle.push.specs.declared.instruction.Instruction.{Instruction}
 use Rattle.push.specs.Run.{RunState, begun, run, status_number}
@@ -27,4 +27,7 @@ end_number e = status_number e.1.status * 4294967296 + e.0
 
 -- An accepted job runs from values that are all 0.
 abbrev pub run_number : List ℕ → ℕ → ℕ
-run_number job budget = cond ((verdict_on job).0 == 0) (end_number (run (code_in job) budget (begun (code_in job) zeros))) (3 * 4294967296)
+run_number job budget =
+    if (verdict_on job).0 == 0
+    then end_number (run (code_in job) budget (begun (code_in job) zeros))
+    else 3 * 4294967296

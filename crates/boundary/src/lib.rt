@@ -1,4 +1,10 @@
-// The verdict on a job and a run of it for C: numbers and bytes alone cross.
+//! The verdict on a job and a run of it for C. Numbers and bytes alone cross: a slice comes as a pointer to bytes and
+//! their count, which the caller vouches for. C declares the two functions as
+//!
+//! ```c
+//! uint32_t nextabur_mount(const uint8_t *job, size_t length);
+//! uint64_t nextabur_run(const uint8_t *job, size_t length, uint32_t budget);
+//! ```
 #![tactic(auto)]
 
 ghost use Rattle.std.specs.Prelude.{◌≡◌, IfOk};
@@ -27,7 +33,8 @@ fn run_from_zeros(program: Program, budget: u32) -> u64
     u64::from(u8::from(status)) * 0x1_0000_0000 + u64::from(steps)
 }
 
-// The verdict on a job, over a ladder of 16 with every variable at level 0: number × 65,536 + label, and 0 if accepted.
+/// The verdict on a job over a ladder of 16 with every variable at level 0, as number × 65,536 + label: 0 where the job
+/// is accepted, and else the number of the first broken rule and the label where it is broken.
 #[unsafe(no_mangle)]
 pub extern "C" fn nextabur_mount(job: &[u8]) -> u32
     ensures answers_the_verdict { result ≡ mount_number (verdict_on job.now) }
@@ -36,8 +43,9 @@ pub extern "C" fn nextabur_mount(job: &[u8]) -> u32
     u32::from(number) * 0x1_0000 + u32::from(label)
 }
 
-// Runs a job that mount accepts from values that are all 0: the status's number × 2^32 + the steps that were made.
-// For a refused job 3 × 2^32.
+/// Runs a job that mount accepts, by at most `budget` steps from values that are all 0, as status × 2^32 + steps made:
+/// status 0 where the budget was used up, 1 where the run halted. A job that mount refuses is not run and gives
+/// 3 × 2^32.
 #[unsafe(no_mangle)]
 pub extern "C" fn nextabur_run(job: &[u8], budget: u32) -> u64
     ensures answers_the_end_of_the_run { result ≡ run_number job.now budget }
