@@ -1,5 +1,5 @@
-// Lists of calls that are alike for an observer, over each kind of lattice of the bench: where both runs halt, the
-// observer gets the same sheet, and the highest level does not.
+//! Lists of calls that are alike for an observer, over each kind of lattice of the bench: where both runs halt, the
+//! observer gets the same sheet, and the highest level does not.
 #![tactic(auto)]
 
 #[cfg(test)]

@@ -1,4 +1,4 @@
-// The worked cases: one statement over the definitions of every layer, and the lattices' cases asked of the code too.
+//! The worked cases: one statement over the definitions of every layer, and the lattices' cases asked of the code too.
 #![tactic(auto)]
 
 ghost use Rattle.std.specs.Prelude.{◌≡◌, true, false};

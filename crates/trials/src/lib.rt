@@ -1,4 +1,4 @@
-// Trials of mount: at least one job for every answer, and the ends of a job's sizes.
+//! Trials of mount: at least one job for every answer, and the ends of a job's sizes.
 #![tactic(auto)]
 
 #[cfg(test)]
