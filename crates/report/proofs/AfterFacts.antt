@@ -37,29 +37,54 @@ module _ (o : Order) (bytes : List ℕ) (rest : List Call) where
   abbrev sets : ℕ → ℕ → List Call
   sets i n = map (λ variable. lists.set variable (value bytes variable)) (range_with_len i n) ++ rest
 
+  -- the text of calls that are made in setup, with these levels
+  abbrev in_setup_text : ℕ → List ℕ → List Call → List ℕ
+  in_setup_text place levels calls = answers_text (transcript_from o place (in_setup (record { levels = levels })) calls)
+
+  -- the text of a mount's answer and of calls that are made after it
+  abbrev mounted_text : ℕ × ℕ → ℕ → ReadyState → List Call → List ℕ
+  mounted_text answer place s calls = answers_text (mounted answer ∷ transcript_from o place (is_ready s) calls)
+
   -- a grade leaves no line, and one that is refused makes the input bad
-  text_graded : (n i : ℕ) (levels : List ℕ) → i + n ≡ 32 → length levels ≡ 32 → ((k : ℕ) → k < i → get_or levels k 0 ≡ level bytes k) → answers_text (transcript_from o i (in_setup (record { levels = levels })) (grades i n)) ≡ cond (list_all is_level (range_with_len i n)) (answers_text (transcript_from o 32 (in_setup (record { levels = each (level bytes) })) rest)) bad_input
+  text_graded : (n i : ℕ) (levels : List ℕ) → i + n ≡ 32 → length levels ≡ 32 → ((k : ℕ) → k < i → get_or levels k 0 ≡ level bytes k) →
+      in_setup_text i levels (grades i n)
+      ≡ cond (list_all is_level (range_with_len i n)) (in_setup_text 32 (each (level bytes)) rest) bad_input
   text_graded zero i levels all long done =
       let at : i ≡ 32 = omega arith in
-      ap₂ (λ place held. answers_text (transcript_from o place (in_setup (record { levels = held })) rest)) at (each_at (level bytes) levels 0 long (λ k h. done k (omega arith)))
+      ap₂ (λ place held. in_setup_text place held rest) at (each_at (level bytes) levels 0 long (λ k h. done k (omega arith)))
   text_graded (suc n) i levels all long done =
       let l = level bytes i in
-      let out : Bool → Bool → ℕ × SetupState = λ known fits. cond known (cond fits (0, record { levels = set levels i l }) (2, record { levels = levels })) (1, record { levels = levels }) in
-      let text : Bool → Bool → List ℕ = λ known fits. answers_text (graded (out known fits).0 ∷ transcript_from o (i + 1) (in_setup (out known fits).1) (grades (i + 1) n)) in
-      let next = text_graded n (i + 1) (set levels i l) (omega arith) (length-set levels i l ∙ long) (fill_by_more (level bytes) levels i 0 (omega arith) done) in
-      ap (λ known. text known (is_level i)) (lt-ltb i 32 (omega arith))
-      ∙ elim (is_level i) as (λ fits. text true fits ≡ cond (fits && list_all is_level (range_with_len (i + 1) n)) (answers_text (transcript_from o 32 (in_setup (record { levels = each (level bytes) })) rest)) bad_input) [ true ↦ next | false ↦ refl ]
+      let next_levels = set levels i l in
+      let fitting : Bool → ℕ × SetupState = λ fits. cond fits (0, record { levels = next_levels }) (2, record { levels = levels }) in
+      let out : Bool → Bool → ℕ × SetupState = λ known fits. cond known (fitting fits) (1, record { levels = levels }) in
+      let text_of : ℕ × SetupState → List ℕ =
+          λ graded_by. answers_text (graded graded_by.0 ∷ transcript_from o (i + 1) (in_setup graded_by.1) (grades (i + 1) n)) in
+      let next_done = fill_by_more (level bytes) levels i 0 (omega arith) done in
+      let next = text_graded n (i + 1) next_levels (omega arith) (length-set levels i l ∙ long) next_done in
+      let wanted : Bool → List ℕ =
+          λ fits. cond (fits && list_all is_level (range_with_len (i + 1) n)) (in_setup_text 32 (each (level bytes)) rest) bad_input in
+      ap (λ known. text_of (out known (is_level i))) (lt-ltb i 32 (omega arith))
+      ∙ elim (is_level i) as (λ fits. text_of (out true fits) ≡ wanted fits) [ true ↦ next | false ↦ refl ]
 
   -- a set is never refused, and leaves no line
-  text_set : (n i place : ℕ) (answer : ℕ × ℕ) (levels : List ℕ) (values : List ℤ) (program : List Instruction) → i + n ≡ 32 → place + n ≡ 66 → length values ≡ 32 → ((k : ℕ) → k < i → get_or values k (pos 0) ≡ value bytes k) → answers_text (mounted answer ∷ transcript_from o place (is_ready (record { levels = levels; values = values; program = program })) (sets i n)) ≡ answers_text (mounted answer ∷ transcript_from o 66 (is_ready (record { levels = levels; values = each (value bytes); program = program })) rest)
+  text_set : (n i place : ℕ) (answer : ℕ × ℕ) (levels : List ℕ) (values : List ℤ) (program : List Instruction) → i + n ≡ 32 →
+      place + n ≡ 66 → length values ≡ 32 → ((k : ℕ) → k < i → get_or values k (pos 0) ≡ value bytes k) →
+      mounted_text answer place (record { levels = levels; values = values; program = program }) (sets i n)
+      ≡ mounted_text answer 66 (record { levels = levels; values = each (value bytes); program = program }) rest
   text_set zero i place answer levels values program all end long done =
       let at : place ≡ 66 = omega arith in
-      ap₂ (λ p held. answers_text (mounted answer ∷ transcript_from o p (is_ready (record { levels = levels; values = held; program = program })) rest)) at (each_at (value bytes) values (pos 0) long (λ k h. done k (omega arith)))
+      ap₂ (λ p held. mounted_text answer p (record { levels = levels; values = held; program = program }) rest) at
+      (each_at (value bytes) values (pos 0) long (λ k h. done k (omega arith)))
   text_set (suc n) i place answer levels values program all end long done =
       let x = value bytes i in
-      let out : Bool → ℕ × ReadyState = λ known. cond known (0, record { levels = levels; values = set values i x; program = program }) (1, record { levels = levels; values = values; program = program }) in
-      let next = text_set n (i + 1) (place + 1) answer levels (set values i x) program (omega arith) (omega arith) (length-set values i x ∙ long) (fill_by_more (value bytes) values i (pos 0) (omega arith) done) in
-      ap (λ known. answers_text (mounted answer ∷ was_set (out known).0 ∷ transcript_from o (place + 1) (is_ready (out known).1) (sets (i + 1) n))) (lt-ltb i 32 (omega arith)) ∙ next
+      let holding : List ℤ → ReadyState = λ held. record { levels = levels; values = held; program = program } in
+      let out : Bool → ℕ × ReadyState = λ known. cond known (0, holding (set values i x)) (1, holding values) in
+      let text_of : ℕ × ReadyState → List ℕ =
+          λ s. answers_text (mounted answer ∷ was_set s.0 ∷ transcript_from o (place + 1) (is_ready s.1) (sets (i + 1) n)) in
+      let next_done = fill_by_more (value bytes) values i (pos 0) (omega arith) done in
+      let next_long = length-set values i x ∙ long in
+      ap (λ known. text_of (out known)) (lt-ltb i 32 (omega arith))
+      ∙ text_set n (i + 1) (place + 1) answer levels (set values i x) program (omega arith) (omega arith) next_long next_done
 
 -- a mount leaves the values
 values_stay : (s : ReadyState) (v : ℕ × ℕ) (program : List Instruction) → (mounted_by s v program).1.values ≡ s.values
@@ -69,7 +94,9 @@ values_stay s v program =
 
 -- the calls for an input, with others after its values are set
 abbrev pub calls_then : List ℕ → List Call → List Call
-calls_then bytes after = each (λ variable. lists.grade variable (level bytes variable)) ++ (seal ∷ mount (job bytes) ∷ (each (λ variable. lists.set variable (value bytes variable)) ++ after))
+calls_then bytes after =
+    each (λ variable. lists.grade variable (level bytes variable))
+    ++ (seal ∷ mount (job bytes) ∷ (each (λ variable. lists.set variable (value bytes variable)) ++ after))
 
 module _ (o : Order) (bytes : List ℕ) (after : List Call) where
   -- the mount of the job on the graded and sealed controller
@@ -85,13 +112,19 @@ module _ (o : Order) (bytes : List ℕ) (after : List Call) where
   text_by : (n : ℕ) → n ≡ 32 → answers_text (transcript o (calls_then bytes after)) ≡ cond (all_levels o bytes) text bad_input
   text_by n e =
       let all_graded : ℕ → Bool = λ variable. ltb (level bytes variable) o.span in
-      let setting = each (λ variable. lists.set variable (value bytes variable)) in
-      let long : length mounting.1.values ≡ 32 = ap length (values_stay (sealed bytes) (verdict o (each (level bytes)) (job bytes)) (decoded_code (job bytes) (opening (job bytes)))) ∙ length-replicate 32 (pos 0) in
-      ap (λ grading. answers_text (transcript o (grading ++ after_grades setting))) (each_is (λ variable. lists.grade variable (level bytes variable)) n e)
-      ∙ text_graded o bytes (after_grades setting) n 0 (replicate 32 o.highest) (omega (arith, e)) (length-replicate 32 o.highest) (λ k h. absurd (omega arith))
+      let grading : ℕ → Call = λ variable. lists.grade variable (level bytes variable) in
+      let setting : ℕ → Call = λ variable. lists.set variable (value bytes variable) in
+      let sets = after_grades (each setting) in
+      let found = verdict o (each (level bytes)) (job bytes) in
+      let kept = values_stay (sealed bytes) found (decoded_code (job bytes) (opening (job bytes))) in
+      let s = mounting.1 in
+      let long : length s.values ≡ 32 = ap length kept ∙ length-replicate 32 (pos 0) in
+      let graded = in_setup_text o bytes sets 32 (each (level bytes)) in
+      ap (λ grades. answers_text (transcript o (grades ++ sets))) (each_is grading n e)
+      ∙ text_graded o bytes sets n 0 (replicate 32 o.highest) (omega (arith, e)) (length-replicate 32 o.highest) (λ k h. absurd (omega arith))
       ∙ ap₂ (λ fit shown. cond fit shown bad_input) (all_of_range all_graded n ∙ ap (all_below all_graded) e)
-      (ap (λ sets. answers_text (transcript_from o 32 (in_setup (record { levels = each (level bytes) })) (after_grades sets))) (each_is (λ variable. lists.set variable (value bytes variable)) n e)
-      ∙ text_set o bytes after n 0 34 mounting.0 mounting.1.levels mounting.1.values mounting.1.program (omega (arith, e)) (omega (arith, e)) long (λ k h. absurd (omega arith)))
+      (ap (λ sets. graded (after_grades sets)) (each_is setting n e)
+      ∙ text_set o bytes after n 0 34 mounting.0 s.levels s.values s.program (omega (arith, e)) (omega (arith, e)) long (λ k h. absurd (omega arith)))
 
   pub text_of_calls : answers_text (transcript o (calls_then bytes after)) ≡ cond (all_levels o bytes) text bad_input
   text_of_calls = text_by 32 refl

@@ -13,7 +13,8 @@ use Rattle.report.specs.Outcomes.{mounting, running, ending, outcomes_text, Repo
 use Rattle.report.proofs.AfterFacts.{text_of_calls}
 
 -- a show into a buffer that any sheet fits
-shown_whole : (o : Order) (m r : ℕ × ℕ) (e : ℕ) (s : ReadyState) (w : ℕ) (buffer : List ℕ) → 160 ≤ length buffer → answers_text (mounted m ∷ started ∷ advanced r ∷ ended e ∷ sheet_shown (show_outcome o s w buffer) ∷ []) ≡ cond (ltb w o.span) (mount_line m ++ (run_line r ++ (end_line e ++ sheet_text (open_count o s w) (sheet o s w)))) bad_input
+shown_whole : (o : Order) (m r : ℕ × ℕ) (e : ℕ) (s : ReadyState) (w : ℕ) (buffer : List ℕ) → 160 ≤ length buffer →
+    answers_text (mounted m ∷ started ∷ advanced r ∷ ended e ∷ sheet_shown (show_outcome o s w buffer) ∷ []) ≡ cond (ltb w o.span) (mount_line m ++ (run_line r ++ (end_line e ++ sheet_text (open_count o s w) (sheet o s w)))) bad_input
 shown_whole o m r e s w buffer long =
     let count = open_count o s w in
     let lines = sheet o s w in
@@ -39,7 +40,8 @@ by_outcomes o bytes =
     ∙ ap (λ text. cond (all_levels o bytes) text bad_input) (shown_whole o (mounting o bytes).0 (running o bytes).0 (ending o bytes).0 (ending o bytes).1 w (replicate 160 0) (omega (arith, length-replicate {A = ℕ} 160 0)))
     ∙ both (all_levels o bytes) (ltb w o.span) _ bad_input
 
-same_by_kind : (over under : Order → List ℕ → List ℕ) (bytes : List ℕ) → ((o : Order) → over o bytes ≡ under o bytes) → (named : Option Order) → text_by_kind over named bytes ≡ text_by_kind under named bytes
+same_by_kind : (over under : Order → List ℕ → List ℕ) (bytes : List ℕ) → ((o : Order) → over o bytes ≡ under o bytes) → (named : Option Order) →
+    text_by_kind over named bytes ≡ text_by_kind under named bytes
 same_by_kind over under bytes same None = refl
 same_by_kind over under bytes same (Some o) = same o
 

@@ -7,7 +7,8 @@ use Rattle.report.specs.Report.{transcript_text, input_text}
 use Rattle.report.specs.Of.{IsTextUnlessNoMemory}
 use Rattle.report.proofs.kinds.report_on.Goals as goal
 
-over_named : {Z : Type 0} (text_over : Order → List ℕ → List ℕ) (bytes : List ℕ) (o made : Order) (text : Result (String Z) NoReport) → true ≡ fits bytes → Some o ≡ kind (slice_index bytes 0) → made ≡ o → IsTextUnlessNoMemory text (text_over made bytes) → IsTextUnlessNoMemory text (input_text text_over bytes)
+over_named : {Z : Type 0} (text_over : Order → List ℕ → List ℕ) (bytes : List ℕ) (o made : Order) (text : Result (String Z) NoReport) → true ≡ fits bytes →
+    Some o ≡ kind (slice_index bytes 0) → made ≡ o → IsTextUnlessNoMemory text (text_over made bytes) → IsTextUnlessNoMemory text (input_text text_over bytes)
 over_named text_over bytes o made text fit named same is = rw (sym fit, sym named) (subst (λ order. IsTextUnlessNoMemory text (text_over order bytes)) same is)
 
 pub returns-in-Ladder : goal.returns-in-Ladder

@@ -3,7 +3,8 @@ use Rattle.std.specs.Slice.{IsGetRangeResult}
 use Rattle.std.proofs.lemmas.List.{drop_all, take_rest}
 use Rattle.report.proofs.input.Input.job.Goals as goal
 
-rest_or_none : (xs : List ℕ) (n : ℕ) (r : Option (Bor (List ℕ))) (none : Bor (List ℕ)) → none.now ≡ [] → IsGetRangeResult xs n (length xs) r → (unwrap_or r none).now ≡ drop n xs
+rest_or_none : (xs : List ℕ) (n : ℕ) (r : Option (Bor (List ℕ))) (none : Bor (List ℕ)) → none.now ≡ [] → IsGetRangeResult xs n (length xs) r →
+    (unwrap_or r none).now ≡ drop n xs
 rest_or_none xs n None none e got =
     let short : length xs ≤ n = omega (arith, got.0) in
     e ∙ sym (drop_all n xs short)
