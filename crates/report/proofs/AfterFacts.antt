@@ -58,11 +58,11 @@ module _ (o : Order) (bytes : List ℕ) (rest : List Call) where
       let fitting : Bool → ℕ × SetupState = λ fits. cond fits (0, record { levels = next_levels }) (2, record { levels = levels }) in
       let out : Bool → Bool → ℕ × SetupState = λ known fits. cond known (fitting fits) (1, record { levels = levels }) in
       let text_of : ℕ × SetupState → List ℕ =
-          λ graded_by. answers_text (graded graded_by.0 ∷ transcript_from o (i + 1) (in_setup graded_by.1) (grades (i + 1) n)) in
+      λ graded_by. answers_text (graded graded_by.0 ∷ transcript_from o (i + 1) (in_setup graded_by.1) (grades (i + 1) n)) in
       let next_done = fill_by_more (level bytes) levels i 0 (omega arith) done in
       let next = text_graded n (i + 1) next_levels (omega arith) (length-set levels i l ∙ long) next_done in
       let wanted : Bool → List ℕ =
-          λ fits. cond (fits && list_all is_level (range_with_len (i + 1) n)) (in_setup_text 32 (each (level bytes)) rest) bad_input in
+      λ fits. cond (fits && list_all is_level (range_with_len (i + 1) n)) (in_setup_text 32 (each (level bytes)) rest) bad_input in
       ap (λ known. text_of (out known (is_level i))) (lt-ltb i 32 (omega arith))
       ∙ elim (is_level i) as (λ fits. text_of (out true fits) ≡ wanted fits) [ true ↦ next | false ↦ refl ]
 
@@ -80,7 +80,7 @@ module _ (o : Order) (bytes : List ℕ) (rest : List Call) where
       let holding : List ℤ → ReadyState = λ held. record { levels = levels; values = held; program = program } in
       let out : Bool → ℕ × ReadyState = λ known. cond known (0, holding (set values i x)) (1, holding values) in
       let text_of : ℕ × ReadyState → List ℕ =
-          λ s. answers_text (mounted answer ∷ was_set s.0 ∷ transcript_from o (place + 1) (is_ready s.1) (sets (i + 1) n)) in
+      λ s. answers_text (mounted answer ∷ was_set s.0 ∷ transcript_from o (place + 1) (is_ready s.1) (sets (i + 1) n)) in
       let next_done = fill_by_more (value bytes) values i (pos 0) (omega arith) done in
       let next_long = length-set values i x ∙ long in
       ap (λ known. text_of (out known)) (lt-ltb i 32 (omega arith))

@@ -12,22 +12,31 @@ use Rattle.report.specs.Report.{bad_input, mount_line, run_line, end_line, sheet
 use Rattle.report.specs.Outcomes.{mounting, running, ending, outcomes_text, ReportIsTheOutcomes}
 use Rattle.report.proofs.AfterFacts.{text_of_calls}
 
--- a show into a buffer that any sheet fits
-shown_whole : (o : Order) (m r : ℕ × ℕ) (e : ℕ) (s : ReadyState) (w : ℕ) (buffer : List ℕ) → 160 ≤ length buffer →
-    answers_text (mounted m ∷ started ∷ advanced r ∷ ended e ∷ sheet_shown (show_outcome o s w buffer) ∷ []) ≡ cond (ltb w o.span) (mount_line m ++ (run_line r ++ (end_line e ++ sheet_text (open_count o s w) (sheet o s w)))) bad_input
-shown_whole o m r e s w buffer long =
-    let count = open_count o s w in
-    let lines = sheet o s w in
-    let front : List ℕ → List ℕ = λ text. mount_line m ++ (run_line r ++ (end_line e ++ text)) in
-    let out : Bool → Bool → (ℕ × ℕ) × List ℕ = λ known short. cond known (cond short ((3, 0), buffer) ((0, count), lines ++ drop (5 * count) buffer)) ((2, 0), buffer) in
-    let text : Bool → Bool → List ℕ = λ known short. answers_text (mounted m ∷ started ∷ advanced r ∷ ended e ∷ sheet_shown (out known short) ∷ []) in
-    let room : 5 * count ≤ length buffer = omega (arith, open_at_most o s w 32) in
-    let whole : take (5 * count) (lines ++ drop (5 * count) buffer) ≡ lines = take_at lines (drop (5 * count) buffer) (5 * count) (length_lines o s w 32) in
-    ap (text (ltb w o.span)) (le-ltb (length buffer) (5 * count) room)
-    ∙ elim (ltb w o.span) as (λ known. text known false ≡ cond known (front (sheet_text count lines)) bad_input) [
-      | true ↦ ap (λ bytes. front (sheet_text count bytes ++ [])) whole ∙ ap front (append-nil (sheet_text count lines))
-      | false ↦ refl
-    ]
+module _ (m r : ℕ × ℕ) (e : ℕ) where
+  -- the answers of a report, where a show gives these
+  abbrev shown_text : (ℕ × ℕ) × List ℕ → List ℕ
+  shown_text shown_by = answers_text (mounted m ∷ started ∷ advanced r ∷ ended e ∷ sheet_shown shown_by ∷ [])
+
+  abbrev lines_before : List ℕ → List ℕ
+  lines_before text = mount_line m ++ (run_line r ++ (end_line e ++ text))
+
+  -- a show into a buffer that any sheet fits
+  shown_whole : (o : Order) (s : ReadyState) (w : ℕ) (buffer : List ℕ) → 160 ≤ length buffer →
+      shown_text (show_outcome o s w buffer) ≡ cond (ltb w o.span) (lines_before (sheet_text (open_count o s w) (sheet o s w))) bad_input
+  shown_whole o s w buffer long =
+      let count = open_count o s w in
+      let lines = sheet o s w in
+      let written = lines ++ drop (5 * count) buffer in
+      let fitting : Bool → (ℕ × ℕ) × List ℕ = λ short. cond short ((3, 0), buffer) ((0, count), written) in
+      let out : Bool → Bool → (ℕ × ℕ) × List ℕ = λ known short. cond known (fitting short) ((2, 0), buffer) in
+      let room : 5 * count ≤ length buffer = omega (arith, open_at_most o s w 32) in
+      let whole : take (5 * count) written ≡ lines = take_at lines (drop (5 * count) buffer) (5 * count) (length_lines o s w 32) in
+      let wanted : Bool → List ℕ = λ known. cond known (lines_before (sheet_text count lines)) bad_input in
+      ap (λ short. shown_text (out (ltb w o.span) short)) (le-ltb (length buffer) (5 * count) room)
+      ∙ elim (ltb w o.span) as (λ known. shown_text (out known false) ≡ wanted known) [
+        | true ↦ ap (λ bytes. lines_before (sheet_text count bytes ++ [])) whole ∙ ap lines_before (append-nil (sheet_text count lines))
+        | false ↦ refl
+      ]
 
 both : (a b : Bool) (x y : List ℕ) → cond a (cond b x y) y ≡ cond (a && b) x y
 both true b x y = refl
@@ -36,8 +45,11 @@ both false b x y = refl
 by_outcomes : (o : Order) (bytes : List ℕ) → transcript_text o bytes ≡ outcomes_text o bytes
 by_outcomes o bytes =
     let w = observer bytes in
+    let buffer : List ℕ = replicate 160 0 in
+    let room : 160 ≤ length buffer = omega (arith, length-replicate {A = ℕ} 160 0) in
+    let whole = shown_whole (mounting o bytes).0 (running o bytes).0 (ending o bytes).0 o (ending o bytes).1 w buffer room in
     text_of_calls o bytes (start ∷ advance (budget bytes) ∷ end ∷ show w 160 ∷ [])
-    ∙ ap (λ text. cond (all_levels o bytes) text bad_input) (shown_whole o (mounting o bytes).0 (running o bytes).0 (ending o bytes).0 (ending o bytes).1 w (replicate 160 0) (omega (arith, length-replicate {A = ℕ} 160 0)))
+    ∙ ap (λ text. cond (all_levels o bytes) text bad_input) whole
     ∙ both (all_levels o bytes) (ltb w o.span) _ bad_input
 
 same_by_kind : (over under : Order → List ℕ → List ℕ) (bytes : List ℕ) → ((o : Order) → over o bytes ≡ under o bytes) → (named : Option Order) →

@@ -47,8 +47,8 @@ unfoldable pub each : {X : Type 0} → (ℕ → X) → List X
 each f = map f (range_with_len 0 32)
 
 -- What is done with an input: every variable is graded, the controller sealed, the job mounted and
--- every variable set; then comes one run with the budget, and the observer's sheet by way of a buffer
--- that any sheet fits.
+-- every variable set; then comes one run with the budget, and the observer's sheet by way of a
+-- buffer that any sheet fits.
 abbrev pub calls : List ℕ → List Call
 calls bytes =
     each (λ variable. grade variable (level bytes variable))

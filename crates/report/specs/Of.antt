@@ -23,8 +23,8 @@ kind_read (Err _) = None
 abbrev pub ReadsKind : ℕ → Result Kind NoKind → Type 0
 ReadsKind byte read = kind_read read ≡ kind byte
 
--- What was made is that text, or the error that says that the text is the line of no input. Nothing is
--- said where memory ran out.
+-- What was made is that text, or the error that says that the text is the line of no input. Nothing
+-- is said where memory ran out.
 abbrev pub IsTextUnlessNoMemory : {Z : Type 0} → Result (String Z) NoReport → List ℕ → Type 0
 IsTextUnlessNoMemory (Ok made) text = string_bytes made ≡ text
 IsTextUnlessNoMemory (Err NoInput) text = text ≡ bad_input

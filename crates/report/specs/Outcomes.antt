@@ -6,18 +6,20 @@ use Rattle.controller.specs.Sheet.{open_count, sheet}
 use Rattle.report.specs.Input.{observer, budget, job, all_levels, sealed, with_values}
 use Rattle.report.specs.Report.{bad_input, sheet_text, mount_line, run_line, end_line, input_text, report}
 
--- The job mounted on the graded and sealed controller; its run on the input's values, advanced once;
--- and the end of that.
+-- The job mounted on the graded and sealed controller; its run on the input's values, advanced
+-- once; and the end of that.
 abbrev pub mounting : Order → List ℕ → (ℕ × ℕ) × ReadyState
 mounting o bytes = mount_outcome o (sealed bytes) (job bytes)
 
 abbrev pub running : Order → List ℕ → (ℕ × ℕ) × RunningState
-running o bytes = advance_outcome (started_state (with_values bytes (mounting o bytes).1)) (budget bytes)
+running o bytes =
+    advance_outcome (started_state (with_values bytes (mounting o bytes).1)) (budget bytes)
 
 abbrev pub ending : Order → List ℕ → ℕ × ReadyState
 ending o bytes = end_outcome (running o bytes).1
 
--- A line for the answer of each of the three, and then what the observer may see of the controller that is left.
+-- A line for the answer of each of the three, and then what the observer may see of the controller
+-- that is left.
 abbrev pub outcome_lines : Order → List ℕ → List ℕ
 outcome_lines o bytes =
     mount_line (mounting o bytes).0
@@ -29,7 +31,9 @@ outcome_lines o bytes =
 -- The text of an input over a lattice: these lines, where every level and the observer are levels.
 abbrev pub outcomes_text : Order → List ℕ → List ℕ
 outcomes_text o bytes =
-    if all_levels o bytes && nat_lt (observer bytes) o.span then outcome_lines o bytes else bad_input
+    if all_levels o bytes && nat_lt (observer bytes) o.span
+    then outcome_lines o bytes
+    else bad_input
 
 abbrev pub ReportIsTheOutcomes : List ℕ → Type 0
 ReportIsTheOutcomes bytes = report bytes ≡ input_text outcomes_text bytes

@@ -56,7 +56,7 @@ answers_text answers =
 abbrev pub transcript_text : Order → List ℕ → List ℕ
 transcript_text o bytes = answers_text (transcript o (calls bytes))
 
--- The text of an input, where its text over a lattice is given: that over the lattice that it names.
+-- The text of an input, where its text over each lattice is given: that over the one that it names.
 abbrev pub text_by_kind : (Order → List ℕ → List ℕ) → Option Order → List ℕ → List ℕ
 text_by_kind text_over (Some o) bytes = text_over o bytes
 text_by_kind text_over None bytes = bad_input

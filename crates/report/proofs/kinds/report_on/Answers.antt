@@ -15,18 +15,25 @@ pub returns-in-Ladder : goal.returns-in-Ladder
 returns-in-Ladder c =
     let bytes = c.args.input.now.bytes.now in
     let read = rw c.in-Ladder.is at c.in_ok-try_from.ensures in
-    over_named transcript_text bytes (ladder 16) _ c.report_over.result (search rules) (read ∙ ap kind c.byte.ensures.byte_or_0_past_the_end) c.new.ensures.meaning c.report_over.ensures
+    let named = read ∙ ap kind c.byte.ensures.byte_or_0_past_the_end in
+    let made = c.new.ensures.meaning in
+    over_named transcript_text bytes (ladder 16) _ c.report_over.result (search rules) named made c.report_over.ensures
 
 pub returns-in-Owners : goal.returns-in-Owners
 returns-in-Owners c =
     let bytes = c.args.input.now.bytes.now in
     let read = rw c.in-Owners.is at c.in_ok-try_from.ensures in
-    over_named transcript_text bytes (owners 4) _ c.report_over-in-Owners.result (search rules) (read ∙ ap kind c.byte.ensures.byte_or_0_past_the_end) c.new-in-Owners.ensures.meaning c.report_over-in-Owners.ensures
+    let named = read ∙ ap kind c.byte.ensures.byte_or_0_past_the_end in
+    let made = c.new-in-Owners.ensures.meaning in
+    let given = c.report_over-in-Owners in
+    over_named transcript_text bytes (owners 4) _ given.result (search rules) named made given.ensures
 
 pub returns-in-Pair : goal.returns-in-Pair
 returns-in-Pair c =
     let bytes = c.args.input.now.bytes.now in
     let read = rw c.in-Pair.is at c.in_ok-try_from.ensures in
+    let named = read ∙ ap kind c.byte.ensures.byte_or_0_past_the_end in
     let second = c.new-in-Pair-3.ensures.meaning ∙ ap flip c.new-in-Pair-2.ensures.meaning in
-    let order = c.new-in-Pair-4.ensures.meaning ∙ ap₂ pair c.new-in-Pair.ensures.meaning second in
-    over_named transcript_text bytes (pair (ladder 4) (flip (ladder 4))) _ c.report_over-in-Pair.result (search rules) (read ∙ ap kind c.byte.ensures.byte_or_0_past_the_end) order c.report_over-in-Pair.ensures
+    let made = c.new-in-Pair-4.ensures.meaning ∙ ap₂ pair c.new-in-Pair.ensures.meaning second in
+    let given = c.report_over-in-Pair in
+    over_named transcript_text bytes (pair (ladder 4) (flip (ladder 4))) _ given.result (search rules) named made given.ensures

@@ -11,12 +11,15 @@ use Rattle.report.proofs.text.answers_text.Goals as goal
 pub returns-then-any : goal.returns-then-any
 returns-then-any c =
     let answers = c.args.answers.now in
-    let tested = any_from_yields_List is_refused _ _ c.any.result c.any.ensures.ran (viewed answer_of (YieldsList-from_slice answers cc)) (λ x b q k. search rules) in
+    let yielded = viewed answer_of (YieldsList-from_slice answers cc) in
+    let tested = any_from_yields_List is_refused _ _ c.any.result c.any.ensures.ran yielded (λ x b q k. search rules) in
     rw (sym tested ∙ c.if-any.true) refl
 
 pub returns : goal.returns
 returns c =
     let answers = c.args.answers.now in
-    let tested = any_from_yields_List is_refused _ _ c.any.result c.any.ensures.ran (viewed answer_of (YieldsList-from_slice answers cc)) (λ x b q k. search rules) in
+    let yielded = viewed answer_of (YieldsList-from_slice answers cc) in
+    let tested = any_from_yields_List is_refused _ _ c.any.result c.any.ensures.ran yielded (λ x b q k. search rules) in
     let all = take_all c.loop-answer.answer-index answers (omega arith) in
-    rw (sym tested ∙ c.if-any.false) (c.loop-answer.invariant ∙ ap (flat_map (λ a. answer_lines (answer_of a))) all ∙ sym (flat_map-map answer_lines answer_of answers))
+    let lines = ap (flat_map (λ a. answer_lines (answer_of a))) all in
+    rw (sym tested ∙ c.if-any.false) (c.loop-answer.invariant ∙ lines ∙ sym (flat_map-map answer_lines answer_of answers))
