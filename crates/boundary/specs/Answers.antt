@@ -1,5 +1,5 @@
--- What the functions for C answer: the verdict on a job in one number, and the end of its run in one number.
--- Assumes nothing.
+-- What the functions for C answer: the verdict on a job in one number, and the end of its run in
+-- one number. Assumes nothing.
 use Rattle.std.specs.Prelude.{ℕ, ◌+◌, ◌*◌, if◌then◌else◌, List, replicate, ℤ, pos, ◌==◌}
 use Rattle.lattice.specs.Kinds.{ladder}
 use Rattle.push.specs.declared.instruction.Instruction.{Instruction}

@@ -25,9 +25,14 @@ IsReported trial = report trial.0 ≡ trial.1
 all_agree : (trials : List Trial) → count_by agrees trials ≡ length trials → Conforms trials
 all_agree [] e = All-nil IsReported
 all_agree (trial ∷ trials) e =
+    let more = count_more trial trials in
     ⊎_elim
-    (λ (h : agrees trial ≡ true). All-cons IsReported trial trials (agrees_says trial h) (all_agree trials (omega (arith, e, count_more trial trials, cond-true {A = ℕ} (agrees trial) 1 0 h))))
-    (λ (h : agrees trial ≡ false). absurd (omega (arith, e, count_more trial trials, cond-false {A = ℕ} (agrees trial) 1 0 h, count_by-le-length agrees trials)))
+    (λ (h : agrees trial ≡ true).
+    let rest = all_agree trials (omega (arith, e, more, cond-true {A = ℕ} (agrees trial) 1 0 h)) in
+    All-cons IsReported trial trials (agrees_says trial h) rest)
+    (λ (h : agrees trial ≡ false).
+    let few = count_by-le-length agrees trials in
+    absurd (omega (arith, e, more, cond-false {A = ℕ} (agrees trial) 1 0 h, few)))
     (cases_Bool (agrees trial))
 
 -- A table that passes holds whole cases only, and every one agrees.

@@ -11,7 +11,11 @@ use Rattle.conformance.proofs.Walk.{was_some, cases_more, cases_few}
 -- What was found, with some cases more at the end.
 abbrev pub onward : Found → List Trial → Found
 onward before trials =
-    record { run = before.run + length trials; agreed = before.agreed + count_by agrees trials; differs = option_or before.differs (first_differing before.run trials) }
+    record {
+      run = before.run + length trials;
+      agreed = before.agreed + count_by agrees trials;
+      differs = option_or before.differs (first_differing before.run trials);
+    }
 
 or_none : (d : Option (ℕ × Trial)) → option_or d None ≡ d
 or_none None = refl
@@ -33,21 +37,27 @@ or_twice : (d : Option (ℕ × Trial)) (x : ℕ × Trial) (later : Option (ℕ �
 or_twice None x later = refl
 or_twice (Some y) x later = refl
 
-onward_noted : (s : Found) (trial : Trial) (trials : List Trial) (agreed : Bool) → agreed ≡ agrees trial → onward (noted s trial agreed) trials ≡ onward s (trial ∷ trials)
+onward_noted : (s : Found) (trial : Trial) (trials : List Trial) (agreed : Bool) → agreed ≡ agrees trial →
+    onward (noted s trial agreed) trials ≡ onward s (trial ∷ trials)
 onward_noted s trial trials true e =
     let run : s.run + 1 + length trials ≡ s.run + suc (length trials) = omega arith in
-    let counted : s.agreed + 1 + count_by agrees trials ≡ s.agreed + count_by agrees (trial ∷ trials) = omega (arith, count_more trial trials, cond-true {A = ℕ} (agrees trial) 1 0 (sym e)) in
+    let one = cond-true {A = ℕ} (agrees trial) 1 0 (sym e) in
+    let more = count_more trial trials in
+    let counted : s.agreed + 1 + count_by agrees trials ≡ s.agreed + count_by agrees (trial ∷ trials) = omega (arith, more, one) in
     let later = sym (cond-true (agrees trial) (first_differing (s.run + 1) trials) (Some (s.run, trial)) (sym e)) in
     λ i. record { run = run i; agreed = counted i; differs = option_or s.differs (later i) }
 onward_noted s trial trials false e =
     let run : s.run + 1 + length trials ≡ s.run + suc (length trials) = omega arith in
-    let counted : s.agreed + count_by agrees trials ≡ s.agreed + count_by agrees (trial ∷ trials) = omega (arith, count_more trial trials, cond-false {A = ℕ} (agrees trial) 1 0 (sym e)) in
+    let none = cond-false {A = ℕ} (agrees trial) 1 0 (sym e) in
+    let more = count_more trial trials in
+    let counted : s.agreed + count_by agrees trials ≡ s.agreed + count_by agrees (trial ∷ trials) = omega (arith, more, none) in
     let this = sym (cond-false (agrees trial) (first_differing (s.run + 1) trials) (Some (s.run, trial)) (sym e)) in
     let differs = or_twice s.differs (s.run, trial) (first_differing (s.run + 1) trials) ∙ ap (option_or s.differs) this in
     λ i. record { run = run i; agreed = counted i; differs = differs i }
 
 -- One case more is counted: what is to be found of all cases is the same.
-pub turn : (s next all : Found) (t rest : List ℕ) (trial : Trial) → Some (trial, rest) ≡ next_case t → next ≡ noted s trial (agrees trial) → onward s (cases t) ≡ all → onward next (cases rest) ≡ all
+pub turn : (s next all : Found) (t rest : List ℕ) (trial : Trial) → Some (trial, rest) ≡ next_case t → next ≡ noted s trial (agrees trial) →
+    onward s (cases t) ≡ all → onward next (cases rest) ≡ all
 turn s next all t rest trial read counted so_far =
     let was = was_some t trial rest read in
     let here : trial ∷ cases rest ≡ cases t = (λ i. was.1 i ∷ cases (was.2 i)) ∙ sym (cases_more t was.0) in

@@ -10,11 +10,16 @@ unfolding next_case
 reads_none t short = sym (cond-false (has_case t) (Some (first_case t, after_case t)) None (lt-leb (size t) (length t) short))
 
 -- A length stands in two of the first four bytes.
-pub length_read : (t lengths : List ℕ) (at n : ℕ) → at + 1 < 4 → lengths ≡ take 4 t → n ≡ get_or lengths at 0 + get_or lengths (at + 1) 0 * 256 → n ≡ get_or t at 0 + get_or t (at + 1) 0 * 256
-length_read t lengths at n within front read = omega (arith, read, ap (λ f. get_or f at 0) front, ap (λ f. get_or f (at + 1) 0) front, get_or-take 4 t at 0 (omega arith), get_or-take 4 t (at + 1) 0 (omega arith))
+pub length_read : (t lengths : List ℕ) (at n : ℕ) → at + 1 < 4 → lengths ≡ take 4 t → n ≡ get_or lengths at 0 + get_or lengths (at + 1) 0 * 256 →
+    n ≡ get_or t at 0 + get_or t (at + 1) 0 * 256
+length_read t lengths at n within front read =
+    let low = ap (λ f. get_or f at 0) front in
+    let high = ap (λ f. get_or f (at + 1) 0) front in
+    omega (arith, read, low, high, get_or-take 4 t at 0 (omega arith), get_or-take 4 t (at + 1) 0 (omega arith))
 
 -- Two cuts behind the lengths give the first case and what comes after it.
-pub reads_whole : (t body input expected middle rest : List ℕ) (n m : ℕ) → size t ≤ length t → n ≡ input_length t → m ≡ expected_length t → body ≡ drop 4 t → input ≡ take n body → middle ≡ drop n body → expected ≡ take m middle → rest ≡ drop m middle → Some ((input, expected), rest) ≡ next_case t
+pub reads_whole : (t body input expected middle rest : List ℕ) (n m : ℕ) → size t ≤ length t → n ≡ input_length t → m ≡ expected_length t → body ≡ drop 4 t →
+    input ≡ take n body → middle ≡ drop n body → expected ≡ take m middle → rest ≡ drop m middle → Some ((input, expected), rest) ≡ next_case t
 unfolding next_case
 reads_whole t body input expected middle rest n m long is_n is_m is_body is_input is_middle is_expected is_rest =
     let first : input ≡ take (input_length t) (drop 4 t) = is_input ∙ ap₂ take is_n is_body in
@@ -28,7 +33,8 @@ none_cond : {X : Type 0} (b : Bool) (y : X) → None ≡ cond b (Some y) None �
 none_cond true y e = absurd (none-some y e)
 none_cond false y e = refl
 
-pub was_some : (t : List ℕ) (trial : Trial) (rest : List ℕ) → Some (trial, rest) ≡ next_case t → (has_case t ≡ true) × (trial ≡ first_case t) × (rest ≡ after_case t)
+pub was_some : (t : List ℕ) (trial : Trial) (rest : List ℕ) → Some (trial, rest) ≡ next_case t →
+    (has_case t ≡ true) × (trial ≡ first_case t) × (rest ≡ after_case t)
 unfolding next_case
 was_some t trial rest e =
     let told = cond_some (has_case t) (first_case t, after_case t) (trial, rest) (sym e) in
@@ -49,7 +55,8 @@ unfolding split_within
 split_none zero t h = refl
 split_none (suc n) t h = cond-false (has_case t) _ ([], t) h
 
-split_some : (n : ℕ) (t : List ℕ) → has_case t ≡ true → split_within (suc n) t ≡ (first_case t ∷ (split_within n (after_case t)).0, (split_within n (after_case t)).1)
+split_some : (n : ℕ) (t : List ℕ) → has_case t ≡ true →
+    split_within (suc n) t ≡ (first_case t ∷ (split_within n (after_case t)).0, (split_within n (after_case t)).1)
 unfolding split_within
 split_some n t h = cond-true (has_case t) _ ([], t) h
 

@@ -14,7 +14,7 @@ agrees trial = bytes_eq (report trial.0) trial.1
 abbrev pub Conforms : List Trial → Type 0
 Conforms trials = All (λ trial. report trial.0 ≡ trial.1) trials
 
--- The first case that does not agree, with its number; the first case of the list has the number given.
+-- The first case that does not agree, with its number; the first of the list has the number given.
 abbrev pub first_differing : ℕ → List Trial → Option (ℕ × Trial)
 first_differing number [] = None
 first_differing number (trial ∷ trials) =

@@ -5,7 +5,8 @@ use Rattle.conformance.specs.Table.{Trial, cases, left_over}
 use Rattle.conformance.specs.Found.{Found, found}
 
 abbrev pub counts_text : ℕ → ℕ → List ℕ
-counts_text run agreed = decimal run ++ (codes " cases run\n" ++ (decimal agreed ++ codes " agreed\n"))
+counts_text run agreed =
+    decimal run ++ (codes " cases run\n" ++ (decimal agreed ++ codes " agreed\n"))
 
 -- A text under its name and length.
 abbrev pub heading : List ℕ → ℕ → List ℕ
@@ -22,7 +23,8 @@ abbrev pub difference_text : Option (ℕ × Trial) → List ℕ
 difference_text None = codes "none differs\n"
 difference_text (Some differs) =
     number_line differs.0
-    ++ (shown_text (codes "expected") differs.1.1 ++ shown_text (codes "given") (report differs.1.0))
+    ++ (shown_text (codes "expected") differs.1.1
+    ++ shown_text (codes "given") (report differs.1.0))
 
 -- A table that ends in the middle of a case is damaged.
 abbrev pub left_text : ℕ → List ℕ

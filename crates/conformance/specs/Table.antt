@@ -5,7 +5,8 @@ use Rattle.std.specs.Prelude.{ℕ, zero, suc, ◌+◌, ◌*◌, Bool, if◌then�
 abbrev pub Trial : Type 0
 Trial = List ℕ × List ℕ
 
--- A case opens with the lengths of its two parts, two bytes each, lower byte first; the parts follow.
+-- A case opens with the lengths of its two parts, two bytes each, lower byte first; the parts
+-- follow.
 abbrev pub input_length : List ℕ → ℕ
 input_length table = slice_index table 0 + slice_index table 1 * 256
 
@@ -16,8 +17,10 @@ abbrev pub size : List ℕ → ℕ
 size table = 4 + input_length table + expected_length table
 
 abbrev pub first_case : List ℕ → Trial
-first_case table =
-    (take (input_length table) (drop 4 table), take (expected_length table) (drop (4 + input_length table) table))
+first_case table = (
+  take (input_length table) (drop 4 table),
+  take (expected_length table) (drop (4 + input_length table) table),
+)
 
 -- Whether a table begins with a whole case, and the table after it.
 abbrev pub has_case : List ℕ → Bool
@@ -34,7 +37,10 @@ unfoldable pub split_within : ℕ → List ℕ → List Trial × List ℕ
 split_within zero table = ([], table)
 split_within (suc most) table =
     if has_case table
-    then (first_case table ∷ (split_within most (after_case table)).0, (split_within most (after_case table)).1)
+    then (
+      first_case table ∷ (split_within most (after_case table)).0,
+      (split_within most (after_case table)).1,
+    )
     else ([], table)
 
 -- All cases of a table, which are no more than its bytes, and the bytes after the last whole one.

@@ -18,7 +18,7 @@ pub struct Case<'a> {
 impl Case<'_> {
     /// Whether the report on the input is the expected text, byte for byte.
     pub fn agrees(&self, heap: Global) -> Result<bool, AllocError>
-        ensures true_where_the_report_is_expected { IfOk result (λ same. same ≡ agrees (case_bytes self.now)) }
+        ensures true_where_as_expected { IfOk result (λ same. same ≡ agrees (case_bytes self.now)) }
     {
         let given = report(heap, self.input)?;
         Ok(given.as_bytes() == self.expected)

@@ -27,10 +27,8 @@ impl<'a> Tally<'a> {
     // Runs one case more.
     fn note(&mut self, heap: Global, case: Case<'a>) -> Result<(), AllocError>
         requires { self.old.run + 1 < 2 ^ 64 }
-        ensures {
-            OnOk result (tally_found self.new
-            ≡ noted (tally_found self.old) (case_bytes case.entry) (agrees (case_bytes case.entry)))
-        }
+        ensures { OnOk result (tally_found self.new
+            ≡ noted (tally_found self.old) (case_bytes case.entry) (agrees (case_bytes case.entry))) }
     {
         let number = self.run;
         self.run += 1;
@@ -45,7 +43,7 @@ impl<'a> Tally<'a> {
     /// Runs the cases of a table in their order.
     pub fn count(heap: Global, table: &'a [u8]) -> Result<Tally<'a>, AllocError>
         ensures all_cases_are_run { IfOk result (λ t. tally_found t ≡ found_of (cases table.now)) }
-        ensures left_is_after_the_last_case { IfOk result (λ t. t.left ≡ length (left_over table.now)) }
+        ensures left_is_past_the_cases { IfOk result (λ t. t.left ≡ length (left_over table.now)) }
     {
         let mut tally = Tally {
             run: 0,
@@ -65,7 +63,7 @@ impl<'a> Tally<'a> {
 
     /// Whether every case agreed and no byte is left over.
     pub fn is_clean(&self) -> bool
-        ensures true_where_all_agree_and_none_is_left { result ≡ is_clean_of (tally_found self.now) self.now.left }
+        ensures true_where_all_agree { result ≡ is_clean_of (tally_found self.now) self.now.left }
     {
         self.agreed == self.run && self.left == 0
     }

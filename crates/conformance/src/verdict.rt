@@ -38,10 +38,8 @@ fn write_text(summary: &mut Vec<u8>, name: &str, text: &[u8]) -> io::Result<()>
 
 // Writes the first case that differs: its number, the expected text and the given one.
 fn write_difference(summary: &mut Vec<u8>, differs: Option<(usize, Case)>) -> io::Result<()>
-    ensures {
-        OnOk result (summary.new.items
-        ≡ summary.old.items ++ difference_text (difference differs.entry))
-    }
+    ensures { OnOk result (summary.new.items
+        ≡ summary.old.items ++ difference_text (difference differs.entry)) }
 {
     let Some((number, case)) = differs else {
         return writeln!(summary, "none differs");
@@ -67,10 +65,8 @@ fn write_left(summary: &mut Vec<u8>, left: usize) -> io::Result<()>
 
 // Writes the summary of what a run over a table found.
 fn write_summary(summary: &mut Vec<u8>, tally: &Tally) -> io::Result<()>
-    ensures {
-        OnOk result (summary.new.items
-        ≡ summary.old.items ++ summary_text (tally_found tally.now) tally.now.left)
-    }
+    ensures { OnOk result (summary.new.items
+        ≡ summary.old.items ++ summary_text (tally_found tally.now) tally.now.left) }
 {
     write_counts(summary, tally.run, tally.agreed)?;
     write_difference(summary, tally.differs)?;
@@ -80,9 +76,8 @@ fn write_summary(summary: &mut Vec<u8>, tally: &Tally) -> io::Result<()>
 /// The verdict on a table: every case is run, and the first that differs is shown. An error is want of memory alone.
 pub fn run_cases(heap: Global, table: &[u8]) -> io::Result<Verdict>
     ensures passed_where_the_table_passes { IfOk result (λ v. v.passed ≡ passes table.now) }
-    ensures passed_conforms {
-        IfOk result (λ v. (v.passed ≡ true → Conforms (cases table.now) × (left_over table.now ≡ [])))
-    }
+    ensures passed_conforms { IfOk result (λ v.
+        (v.passed ≡ true → Conforms (cases table.now) × (left_over table.now ≡ []))) }
     ensures text_is_the_summary { IfOk result (λ v. v.text.items ≡ summary_of table.now) }
 {
     let tally = Tally::count(heap, table)?;

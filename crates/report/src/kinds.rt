@@ -44,7 +44,8 @@ fn report_over<L: Lattice + Drop>(
     lattice: L,
     input: &Input,
 ) -> Result<String, NoReport>
-    ensures { IsTextUnlessNoMemory result (transcript_text (L.Lattice.order lattice) input.now.bytes.now) }
+    ensures { IsTextUnlessNoMemory result
+        (transcript_text (L.Lattice.order lattice) input.now.bytes.now) }
 {
     let calls = calls(heap, input)?;
     let answers = transcript(heap, lattice, calls.as_slice())?;

@@ -18,7 +18,8 @@ pub fn bad_input(heap: Global) -> Result<String, AllocError>
 
 // Appends the text of a sheet: how many lines it has, and for each its variable and value, in decimal.
 fn push_sheet(text: &mut String, sheet: &[u8]) -> Result<(), AllocError>
-    ensures { OnOk result (string_bytes text.new ≡ string_bytes text.old ++ sheet_text (length sheet.now / 5) sheet.now) }
+    ensures { OnOk result (string_bytes text.new
+        ≡ string_bytes text.old ++ sheet_text (length sheet.now / 5) sheet.now) }
 {
     let (lines, _) = sheet.as_chunks::<LINE>();
     writeln!(text, "sheet {}", lines.len())?;
@@ -31,7 +32,8 @@ fn push_sheet(text: &mut String, sheet: &[u8]) -> Result<(), AllocError>
 
 // Appends the line of a mount's answer.
 fn push_mount(text: &mut String, answer: &Result<(), MountFault>) -> Result<(), AllocError>
-    ensures { OnOk result (string_bytes text.new ≡ string_bytes text.old ++ mount_line (mount_answer_of answer.now)) }
+    ensures { OnOk result (string_bytes text.new
+        ≡ string_bytes text.old ++ mount_line (mount_answer_of answer.now)) }
 {
     let (number, label) = mount_answer(answer);
     writeln!(text, "mount {number} {label}")
@@ -39,7 +41,8 @@ fn push_mount(text: &mut String, answer: &Result<(), MountFault>) -> Result<(), 
 
 // Appends the lines of an answer.
 fn push_answer(text: &mut String, answer: &Answer) -> Result<(), AllocError>
-    ensures { OnOk result (string_bytes text.new ≡ string_bytes text.old ++ answer_lines (answer_of answer.now)) }
+    ensures { OnOk result (string_bytes text.new
+        ≡ string_bytes text.old ++ answer_lines (answer_of answer.now)) }
 {
     match answer {
         Answer::Mounted(mounted) => push_mount(text, mounted),

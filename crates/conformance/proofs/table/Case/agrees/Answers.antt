@@ -8,5 +8,5 @@ unfolding agrees
 returns c =
     let given = c.as_bytes.ensures.value ∙ c.in_ok-given.ensures.text_is_the_report in
     record {
-      true_where_the_report_is_expected = c.eq.ensures ∙ ap (λ text. bytes_eq text c.args.self.now.expected.now) given;
+      true_where_as_expected = c.eq.ensures ∙ ap (λ text. bytes_eq text c.args.self.now.expected.now) given;
     }

@@ -23,7 +23,8 @@ loop-case-preserved c =
     let trial = case_bytes c.in-Some.case in
     let was = was_some c.loop-case.rest.now trial c.in-Some.after.now c.in-Some.ensures.first_case_and_the_rest in
     let left = ap left_over was.2 ∙ sym (left_more c.loop-case.rest.now was.0) in
-    (turn (tally_found c.loop-case.tally) (tally_found c.note.new.self) _ c.loop-case.rest.now c.in-Some.after.now trial c.in-Some.ensures.first_case_and_the_rest c.in_ok-note.ensures c.loop-case.invariant.0, left ∙ c.loop-case.invariant.1)
+    let counted = turn (tally_found c.loop-case.tally) (tally_found c.note.new.self) _ c.loop-case.rest.now c.in-Some.after.now trial in
+    (counted c.in-Some.ensures.first_case_and_the_rest c.in_ok-note.ensures c.loop-case.invariant.0, left ∙ c.loop-case.invariant.1)
 
 pub returns : goal.returns
 returns c =
@@ -32,5 +33,5 @@ returns c =
     let none = was_none rest c.in_default.ensures.first_case_and_the_rest in
     record {
       all_cases_are_run = sym (onward_none so_far) ∙ ap (onward so_far) (sym (cases_none rest none)) ∙ c.loop-case.invariant.0;
-      left_is_after_the_last_case = ap length (sym (left_none rest none) ∙ c.loop-case.invariant.1);
+      left_is_past_the_cases = ap length (sym (left_none rest none) ∙ c.loop-case.invariant.1);
     }
