@@ -8,7 +8,7 @@ use Rattle.std.proofs.lemmas.List.Sums.{count_by-le-length, sum_by-cons}
 use Rattle.std.proofs.lemmas.Bool.{cases_Bool, cond-true, cond-false, and_parts, eqb-true}
 use Rattle.report.specs.Report.{report}
 use Rattle.conformance.specs.Table.{Trial, cases, left_over}
-use Rattle.conformance.specs.Found.{agrees, Conforms}
+use Rattle.conformance.specs.Findings.{agrees, Conforms}
 use Rattle.conformance.specs.Summary.{passes}
 
 pub count_more : (trial : Trial) (trials : List Trial) → count_by agrees (trial ∷ trials) ≡ cond (agrees trial) 1 0 + count_by agrees trials

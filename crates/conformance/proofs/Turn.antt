@@ -4,12 +4,12 @@ use Rattle.std.specs.List.{count_by}
 use Rattle.std.specs.Option.{option_or}
 use Rattle.std.proofs.lemmas.Bool.{cond-true, cond-false}
 use Rattle.conformance.specs.Table.{Trial, next_case, cases}
-use Rattle.conformance.specs.Found.{Found, agrees, first_differing, found, noted}
+use Rattle.conformance.specs.Findings.{Findings, agrees, first_differing, findings_of, with_case}
 use Rattle.conformance.proofs.Agreement.{count_more}
 use Rattle.conformance.proofs.Walk.{was_some, cases_more, cases_few}
 
 -- What was found, with some cases more at the end.
-abbrev pub onward : Found → List Trial → Found
+abbrev pub onward : Findings → List Trial → Findings
 onward before trials =
     record {
       run = before.run + length trials;
@@ -21,13 +21,13 @@ or_none : (d : Option (ℕ × Trial)) → option_or d None ≡ d
 or_none None = refl
 or_none (Some x) = refl
 
-pub onward_none : (s : Found) → onward s [] ≡ s
+pub onward_none : (s : Findings) → onward s [] ≡ s
 onward_none s =
     let run : s.run + 0 ≡ s.run = omega arith in
     let agreed : s.agreed + 0 ≡ s.agreed = omega arith in
     λ i. record { run = run i; agreed = agreed i; differs = or_none s.differs i }
 
-pub onward_first : (trials : List Trial) → onward (record { run = 0; agreed = 0; differs = None }) trials ≡ found trials
+pub onward_first : (trials : List Trial) → onward (record { run = 0; agreed = 0; differs = None }) trials ≡ findings_of trials
 onward_first trials =
     let run : 0 + length trials ≡ length trials = omega arith in
     let agreed : 0 + count_by agrees trials ≡ count_by agrees trials = omega arith in
@@ -37,8 +37,8 @@ or_twice : (d : Option (ℕ × Trial)) (x : ℕ × Trial) (later : Option (ℕ �
 or_twice None x later = refl
 or_twice (Some y) x later = refl
 
-onward_noted : (s : Found) (trial : Trial) (trials : List Trial) (agreed : Bool) → agreed ≡ agrees trial →
-    onward (noted s trial agreed) trials ≡ onward s (trial ∷ trials)
+onward_noted : (s : Findings) (trial : Trial) (trials : List Trial) (agreed : Bool) → agreed ≡ agrees trial →
+    onward (with_case s trial agreed) trials ≡ onward s (trial ∷ trials)
 onward_noted s trial trials true e =
     let run : s.run + 1 + length trials ≡ s.run + suc (length trials) = omega arith in
     let one = cond-true {A = ℕ} (agrees trial) 1 0 (sym e) in
@@ -56,7 +56,7 @@ onward_noted s trial trials false e =
     λ i. record { run = run i; agreed = counted i; differs = differs i }
 
 -- One case more is counted: what is to be found of all cases is the same.
-pub turn : (s next all : Found) (t rest : List ℕ) (trial : Trial) → Some (trial, rest) ≡ next_case t → next ≡ noted s trial (agrees trial) →
+pub turn : (s next all : Findings) (t rest : List ℕ) (trial : Trial) → Some (trial, rest) ≡ next_case t → next ≡ with_case s trial (agrees trial) →
     onward s (cases t) ≡ all → onward next (cases rest) ≡ all
 turn s next all t rest trial read counted so_far =
     let was = was_some t trial rest read in
@@ -64,7 +64,7 @@ turn s next all t rest trial read counted so_far =
     ap (λ n. onward n (cases rest)) counted ∙ onward_noted s trial (cases rest) (agrees trial) refl ∙ ap (onward s) here ∙ so_far
 
 -- A count has room for one case more.
-pub room : (s : Found) (t rest : List ℕ) → length t < 2 ^ 64 → onward s (cases rest) ≡ found (cases t) → s.run + 1 < 2 ^ 64
+pub room : (s : Findings) (t rest : List ℕ) → length t < 2 ^ 64 → onward s (cases rest) ≡ findings_of (cases t) → s.run + 1 < 2 ^ 64
 room s t rest long so_far =
     let run : s.run + length (cases rest) ≡ length (cases t) = ap (λ f. f.run) so_far in
     omega (arith, cases_few t)

@@ -1,4 +1,4 @@
 pub mod Table
-pub mod Found
+pub mod Findings
 pub mod Summary
 pub mod Of

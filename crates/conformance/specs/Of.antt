@@ -4,7 +4,7 @@ use Rattle.std.specs.Borrow.{Bor}
 use Rattle.conformance.specs.declared.table.Case.{Case}
 use Rattle.conformance.specs.declared.tally.Tally.{Tally}
 use Rattle.conformance.specs.Table.{Trial}
-use Rattle.conformance.specs.Found.{Found}
+use Rattle.conformance.specs.Findings.{Findings}
 
 abbrev pub case_bytes : Case → Trial
 case_bytes c = (c.input.now, c.expected.now)
@@ -17,5 +17,5 @@ abbrev pub difference : Option (ℕ × Case) → Option (ℕ × Trial)
 difference None = None
 difference (Some differs) = Some (differs.0, case_bytes differs.1)
 
-abbrev pub tally_found : Tally → Found
-tally_found t = record { run = t.run; agreed = t.agreed; differs = difference t.differs }
+abbrev pub findings_in : Tally → Findings
+findings_in t = record { run = t.run; agreed = t.agreed; differs = difference t.differs }

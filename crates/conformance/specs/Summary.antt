@@ -2,7 +2,7 @@
 use Rattle.std.specs.Prelude.{ℕ, Bool, if◌then◌else◌, ◌&&◌, List, [], ◌++◌, length, Some, None, codes, decimal, Option, ◌==◌}
 use Rattle.report.specs.Report.{report}
 use Rattle.conformance.specs.Table.{Trial, cases, left_over}
-use Rattle.conformance.specs.Found.{Found, found}
+use Rattle.conformance.specs.Findings.{Findings, findings_of}
 
 abbrev pub counts_text : ℕ → ℕ → List ℕ
 counts_text run agreed =
@@ -33,16 +33,16 @@ left_text left =
     then []
     else (codes "damaged table: " ++ (decimal left ++ codes " bytes after the last whole case\n"))
 
-abbrev pub summary_text : Found → ℕ → List ℕ
+abbrev pub summary_text : Findings → ℕ → List ℕ
 summary_text f left = counts_text f.run f.agreed ++ (difference_text f.differs ++ left_text left)
 
 -- Whether every case agreed and the table is not damaged.
-abbrev pub is_clean : Found → ℕ → Bool
+abbrev pub is_clean : Findings → ℕ → Bool
 is_clean f left = f.agreed == f.run && left == 0
 
 -- The summary of a table, and whether it passes.
 abbrev pub summary : List ℕ → List ℕ
-summary table = summary_text (found (cases table)) (length (left_over table))
+summary table = summary_text (findings_of (cases table)) (length (left_over table))
 
 abbrev pub passes : List ℕ → Bool
-passes table = is_clean (found (cases table)) (length (left_over table))
+passes table = is_clean (findings_of (cases table)) (length (left_over table))

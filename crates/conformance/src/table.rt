@@ -1,6 +1,6 @@
 ghost use Rattle.std.specs.Prelude.{◌≡◌, IfOk};
 ghost use Rattle.conformance.specs.Table.{next_case};
-ghost use Rattle.conformance.specs.Found.{agrees};
+ghost use Rattle.conformance.specs.Findings.{agrees};
 ghost use Rattle.conformance.specs.Of.{case_bytes, case_read};
 
 use report::report;

@@ -20,15 +20,15 @@ pub struct Tally<'a> {
 impl<'a> Tally<'a> {
     ghost use Rattle.std.specs.Prelude.{◌≡◌, ◌+◌, ◌^◌, ◌<◌, length, IfOk, OnOk};
     ghost use Rattle.conformance.specs.Table.{cases, left_over};
-    ghost use Rattle.conformance.specs.Found.{agrees, found as found_of, noted};
+    ghost use Rattle.conformance.specs.Findings.{agrees, findings_of, with_case};
     ghost use Rattle.conformance.specs.Summary.{is_clean as is_clean_of};
-    ghost use Rattle.conformance.specs.Of.{case_bytes, tally_found};
+    ghost use Rattle.conformance.specs.Of.{case_bytes, findings_in};
 
     // Runs one case more.
     fn note(&mut self, heap: Global, case: Case<'a>) -> Result<(), AllocError>
         requires { self.old.run + 1 < 2 ^ 64 }
-        ensures { OnOk result (tally_found self.new
-            ≡ noted (tally_found self.old) (case_bytes case.entry) (agrees (case_bytes case.entry))) }
+        ensures { OnOk result (findings_in self.new
+            ≡ with_case (findings_in self.old) (case_bytes case.entry) (agrees (case_bytes case.entry))) }
     {
         let number = self.run;
         self.run += 1;
@@ -42,7 +42,7 @@ impl<'a> Tally<'a> {
 
     /// Runs the cases of a table in their order.
     pub fn count(heap: Global, table: &'a [u8]) -> Result<Tally<'a>, AllocError>
-        ensures all_cases_are_run { IfOk result (λ t. tally_found t ≡ found_of (cases table.now)) }
+        ensures all_cases_are_run { IfOk result (λ t. findings_in t ≡ findings_of (cases table.now)) }
         ensures left_is_past_the_cases { IfOk result (λ t. t.left ≡ length (left_over table.now)) }
     {
         let mut tally = Tally {
@@ -63,7 +63,7 @@ impl<'a> Tally<'a> {
 
     /// Whether every case agreed and no byte is left over.
     pub fn is_clean(&self) -> bool
-        ensures true_where_all_agree { result ≡ is_clean_of (tally_found self.now) self.now.left }
+        ensures true_where_all_agree { result ≡ is_clean_of (findings_in self.now) self.now.left }
     {
         self.agreed == self.run && self.left == 0
     }

@@ -1,8 +1,8 @@
 ghost use Rattle.std.specs.Prelude.{◌≡◌, true, [], ◌++◌, IfOk, OnOk};
 ghost use Rattle.conformance.specs.Table.{cases, left_over};
-ghost use Rattle.conformance.specs.Found.{Conforms};
+ghost use Rattle.conformance.specs.Findings.{Conforms};
 ghost use Rattle.conformance.specs.Summary.{counts_text, shown_text, difference_text, left_text, summary_text, summary as summary_of, passes};
-ghost use Rattle.conformance.specs.Of.{difference, tally_found};
+ghost use Rattle.conformance.specs.Of.{difference, findings_in};
 
 use crate::table::Case;
 use crate::tally::Tally;
@@ -66,7 +66,7 @@ fn write_left(summary: &mut Vec<u8>, left: usize) -> io::Result<()>
 // Writes the summary of what a run over a table found.
 fn write_summary(summary: &mut Vec<u8>, tally: &Tally) -> io::Result<()>
     ensures { OnOk result (summary.new.items
-        ≡ summary.old.items ++ summary_text (tally_found tally.now) tally.now.left) }
+        ≡ summary.old.items ++ summary_text (findings_in tally.now) tally.now.left) }
 {
     write_counts(summary, tally.run, tally.agreed)?;
     write_difference(summary, tally.differs)?;

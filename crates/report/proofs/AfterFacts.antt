@@ -15,7 +15,7 @@ use Rattle.checker.specs.Verdict.{verdict, decoded_code}
 use Rattle.controller.specs.State.{SetupState, ReadyState, mount_outcome, mounted as mounted_by}
 use Rattle.controller.specs.Lists as lists
 use Rattle.controller.specs.Lists.{Call, in_setup, is_ready, graded, mounted, was_set, seal, mount, transcript_from, transcript}
-use Rattle.report.specs.Input.{level, value, each, job, all_levels, sealed, with_values}
+use Rattle.report.specs.Input.{level, value, each, job, all_levels, sealed_controller, with_values}
 use Rattle.report.specs.Report.{bad_input, answers_text}
 
 -- a list of 32 that has what f says at each place
@@ -101,7 +101,7 @@ calls_then bytes after =
 module _ (o : Order) (bytes : List ℕ) (after : List Call) where
   -- the mount of the job on the graded and sealed controller
   abbrev mounting : (ℕ × ℕ) × ReadyState
-  mounting = mount_outcome o (sealed bytes) (job bytes)
+  mounting = mount_outcome o (sealed_controller bytes) (job bytes)
 
   abbrev text : List ℕ
   text = answers_text (mounted mounting.0 ∷ transcript_from o 66 (is_ready (with_values bytes mounting.1)) after)
@@ -116,7 +116,7 @@ module _ (o : Order) (bytes : List ℕ) (after : List Call) where
       let setting : ℕ → Call = λ variable. lists.set variable (value bytes variable) in
       let sets = after_grades (each setting) in
       let found = verdict o (each (level bytes)) (job bytes) in
-      let kept = values_stay (sealed bytes) found (decoded_code (job bytes) (opening (job bytes))) in
+      let kept = values_stay (sealed_controller bytes) found (decoded_code (job bytes) (opening (job bytes))) in
       let s = mounting.1 in
       let long : length s.values ≡ 32 = ap length kept ∙ length-replicate 32 (pos 0) in
       let graded = in_setup_text o bytes sets 32 (each (level bytes)) in

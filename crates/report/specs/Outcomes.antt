@@ -3,13 +3,13 @@ use Rattle.std.specs.Prelude.{◌≡◌, ℕ, if◌then◌else◌, ◌&&◌, Lis
 use Rattle.lattice.specs.Order.{Order}
 use Rattle.controller.specs.State.{ReadyState, RunningState, mount_outcome, started_state, advance_outcome, end_outcome}
 use Rattle.controller.specs.Sheet.{open_count, sheet}
-use Rattle.report.specs.Input.{observer, budget, job, all_levels, sealed, with_values}
+use Rattle.report.specs.Input.{observer, budget, job, all_levels, sealed_controller, with_values}
 use Rattle.report.specs.Report.{bad_input, sheet_text, mount_line, run_line, end_line, input_text, report}
 
 -- The job mounted on the graded and sealed controller; its run on the input's values, advanced
 -- once; and the end of that.
 abbrev pub mounting : Order → List ℕ → (ℕ × ℕ) × ReadyState
-mounting o bytes = mount_outcome o (sealed bytes) (job bytes)
+mounting o bytes = mount_outcome o (sealed_controller bytes) (job bytes)
 
 abbrev pub running : Order → List ℕ → (ℕ × ℕ) × RunningState
 running o bytes =

@@ -1,6 +1,6 @@
 use Rattle.std.proofs.Common.{ap, ◌∙◌}
 use Rattle.std.specs.Str.{bytes_eq}
-use Rattle.conformance.specs.Found.{agrees}
+use Rattle.conformance.specs.Findings.{agrees}
 use Rattle.conformance.proofs.table.Case.agrees.Goals as goal
 
 pub returns : goal.returns

@@ -21,21 +21,21 @@ first_differing number (trial ∷ trials) =
     if agrees trial then first_differing (number + 1) trials else Some (number, trial)
 
 -- How many cases there are, how many agree, and the first that differs with its number.
-pub record Found : Type 0 where
+pub record Findings : Type 0 where
   pub run : ℕ
   pub agreed : ℕ
   pub differs : Option (ℕ × Trial)
 
-abbrev pub found : List Trial → Found
-found trials = record {
+abbrev pub findings_of : List Trial → Findings
+findings_of trials = record {
   run = length trials;
   agreed = count_by agrees trials;
   differs = first_differing 0 trials;
 }
 
 -- What was found, with one case more at the end.
-abbrev pub noted : Found → Trial → Bool → Found
-noted before trial agreed = record {
+abbrev pub with_case : Findings → Trial → Bool → Findings
+with_case before trial agreed = record {
   run = before.run + 1;
   agreed = if agreed then before.agreed + 1 else before.agreed;
   differs = if agreed then before.differs else option_or before.differs (Some (before.run, trial));
