@@ -42,7 +42,8 @@ impl<'a> Tally<'a> {
 
     /// Runs the cases of a table in their order.
     pub fn count(heap: Global, table: &'a [u8]) -> Result<Tally<'a>, AllocError>
-        ensures all_cases_are_run { IfOk result (λ t. findings_in t ≡ findings_of (cases table.now)) }
+        ensures all_cases_are_run { IfOk result (λ t.
+            findings_in t ≡ findings_of (cases table.now)) }
         ensures left_is_past_the_cases { IfOk result (λ t. t.left ≡ length (left_over table.now)) }
     {
         let mut tally = Tally {

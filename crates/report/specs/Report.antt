@@ -12,7 +12,7 @@ bad_input = codes "input\n"
 
 -- A variable and its value, in decimal.
 abbrev pub row : ℕ → ℤ → List ℕ
-row variable value = decimal variable ++ (32 ∷ (signed_decimal value ++ (10 ∷ [])))
+row variable value = decimal variable ++ (codes " " ++ (signed_decimal value ++ codes "\n"))
 
 -- The rows of a sheet's lines.
 unfoldable pub rows : List ℕ → List ℕ
@@ -22,17 +22,19 @@ rows _ = []
 
 -- The text of a sheet with so many lines.
 abbrev pub sheet_text : ℕ → List ℕ → List ℕ
-sheet_text count lines = codes "sheet " ++ (decimal count ++ (10 ∷ rows lines))
+sheet_text count lines = codes "sheet " ++ (decimal count ++ (codes "\n" ++ rows lines))
 
 -- The line of a mount's number and label.
 abbrev pub mount_line : ℕ × ℕ → List ℕ
-mount_line answer = codes "mount " ++ (decimal answer.0 ++ (32 ∷ (decimal answer.1 ++ (10 ∷ []))))
+mount_line answer =
+    codes "mount " ++ (decimal answer.0 ++ (codes " " ++ (decimal answer.1 ++ codes "\n")))
 
 abbrev pub run_line : ℕ × ℕ → List ℕ
-run_line answer = codes "run " ++ (decimal answer.0 ++ (32 ∷ (decimal answer.1 ++ (10 ∷ []))))
+run_line answer =
+    codes "run " ++ (decimal answer.0 ++ (codes " " ++ (decimal answer.1 ++ codes "\n")))
 
 abbrev pub end_line : ℕ → List ℕ
-end_line answer = codes "end " ++ (decimal answer ++ (10 ∷ []))
+end_line answer = codes "end " ++ (decimal answer ++ codes "\n")
 
 -- The lines of an answer; most calls have none.
 abbrev pub answer_lines : Answer → List ℕ

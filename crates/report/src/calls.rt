@@ -7,8 +7,8 @@ use crate::input::Input;
 use controller::{Call, SHEET, VARIABLES};
 use std::alloc::{AllocError, Global};
 
-// The call that grades a variable by the level that the input gives it. A function, as `set` is: the borrow checker does
-// not cover a closure that makes a `Call` itself, whose lifetime it cannot name.
+// The call that grades a variable by the level that the input gives it. A function, as `set` is: the borrow checker
+// does not cover a closure that makes a `Call` itself, whose lifetime it cannot name.
 fn grade<'x>(input: &Input<'x>, variable: u8) -> Call<'x>
     ensures { call_of result ≡ grade_of variable (level input.now.bytes.now variable) }
 {
