@@ -6,9 +6,9 @@ use Rattle.push.specs.declared.instruction.Instruction.{Instruction}
 use Rattle.push.specs.declared.status.Status.{Status}
 use Rattle.push.specs.declared.status.Status.TheVariants.{Going, Halted, Faulted}
 use Rattle.push.specs.Machine.{Machine, step, ◌⊢◌⟶◌}
-use Rattle.push.specs.Run.{RunState, arrived, counted, run, tried, is_going, is_halted, label_of, Steps, none, more, AdvancesTo, stays, goes_on, halts, faults}
+use Rattle.push.specs.Run.{RunState, arrived, run, step_or_fault, is_going, is_halted, label_of, Steps, none, more, AdvancesTo, stays, goes_on, halts, faults}
 use Rattle.push.proofs.StepFacts.{rule_steps, steps_by_rule}
-use Rattle.push.proofs.RunFacts.{run_none, run_stopped, made_one, made_none, no_step_at_exit, arrived_true}
+use Rattle.push.proofs.RunFacts.{counted, run_none, run_stopped, made_one, made_none, no_step_at_exit, arrived_true}
 
 module _ (code : List Instruction) where
   abbrev going : Machine → RunState
@@ -50,7 +50,7 @@ module _ (code : List Instruction) where
       let more_left : k + 1 + left ≡ suc (k + left) = omega arith in
       ap (λ r. run code (k + 1 + left) r) (before_exit m (rule_before_exit rule))
       ∙ ap (λ b. run code b (going m)) more_left
-      ∙ made_one code (k + left) (going m) (arrived code n) (ap (tried code m) (rule_steps code rule))
+      ∙ made_one code (k + left) (going m) (arrived code n) (ap (step_or_fault code m) (rule_steps code rule))
       ∙ ap (counted 1) (steps_first rest left)
       ∙ counted_twice k (run code left (arrived code o))
 
@@ -80,7 +80,7 @@ module _ (code : List Instruction) where
       ∙ ap (λ b. run code b (arrived code m)) (sym all)
       ∙ steps_first steps (suc (budget - count - 1))
       ∙ ap (λ r. counted count (run code (suc (budget - count - 1)) r)) (before_exit n before)
-      ∙ ap (counted count) (made_none code (budget - count - 1) (going n) (faulted n) (ap (tried code n) (nowhere (step code n) refl)))
+      ∙ ap (counted count) (made_none code (budget - count - 1) (going n) (faulted n) (ap (step_or_fault code n) (nowhere (step code n) refl)))
       ∙ ap (λ c. (c, faulted n)) none_more
     where
       nowhere : (o : Option Machine) → step code n ≡ o → step code n ≡ None
@@ -125,10 +125,10 @@ module _ (code : List Instruction) where
       by : (o : Option Machine) → step code m ≡ o → ((s : Status) (n : Machine) → RunIsByRules budget s n) →
           AdvancesTo code (suc budget) (going m) (run code (suc budget) (going m)).0 (run code (suc budget) (going m)).1
       by None stuck rest =
-          rw (made_none code budget (going m) (faulted m) (ap (tried code m) stuck))
+          rw (made_none code budget (going m) (faulted m) (ap (step_or_fault code m) stuck))
           (faults none (omega arith) (eqb-false (label_of m) (length code) (sym honest)) (λ o rule. none-some o (sym stuck ∙ rule_steps code rule)))
       by (Some n) made rest =
           let next = arrived code n in
-          rw (made_one code budget (going m) next (ap (tried code m) made))
+          rw (made_one code budget (going m) next (ap (step_or_fault code m) made))
           (step_before (steps_by_rule code m n made) (suc budget) (1 + (run code budget next).0) (omega arith) (omega arith) refl
           (rest next.status n (arrived_true code n).halted_at_the_exit))

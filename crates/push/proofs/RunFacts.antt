@@ -7,8 +7,12 @@ use Rattle.push.specs.Machine.{Machine, at, step, perform, ◌⊢◌⟶◌}
 use Rattle.push.specs.declared.status.Status.{Status}
 use Rattle.push.specs.declared.status.Status.TheVariants.{Going, Halted, Faulted}
 use Rattle.push.specs.Of.{next, stepped, settled}
-use Rattle.push.specs.Run.{RunState, one, tried, arrived, counted, run, is_going, is_halted, label_of, Steps, none, more, TrueStatus, NewRunsAreTrue, Advanced}
+use Rattle.push.specs.Run.{RunState, one_step, step_or_fault, arrived, run, is_going, is_halted, label_of, Steps, none, more, TrueStatus, NewRunsAreTrue, Advanced}
 use Rattle.push.proofs.StepFacts.{rule_steps, steps_by_rule}
+
+-- Some steps before a run of more.
+abbrev pub counted : ℕ → ℕ × RunState → ℕ × RunState
+counted k after = (k + after.0, after.1)
 
 abbrev of : Status → Machine → RunState
 of status m = record { status = status; machine = m }
@@ -18,16 +22,16 @@ module _ (code : List Instruction) where
   unfolding run
   run_none r = refl
 
-  pub made_one : (k : ℕ) (r after : RunState) → one code r.status r.machine ≡ (true, after) → run code (suc k) r ≡ counted 1 (run code k after)
+  pub made_one : (k : ℕ) (r after : RunState) → one_step code r.status r.machine ≡ (true, after) → run code (suc k) r ≡ counted 1 (run code k after)
   unfolding run
   made_one k r after e = ap (λ (p : Bool × RunState). cond p.0 (counted 1 (run code k p.1)) (0, p.1)) e
 
-  pub made_none : (k : ℕ) (r after : RunState) → one code r.status r.machine ≡ (false, after) → run code (suc k) r ≡ (0, after)
+  pub made_none : (k : ℕ) (r after : RunState) → one_step code r.status r.machine ≡ (false, after) → run code (suc k) r ≡ (0, after)
   unfolding run
   made_none k r after e = ap (λ (p : Bool × RunState). cond p.0 (counted 1 (run code k p.1)) (0, p.1)) e
 
   -- a run that has stopped
-  stays : (status : Status) (m : Machine) → is_going status ≡ false → one code status m ≡ (false, record { status = status; machine = m })
+  stays : (status : Status) (m : Machine) → is_going status ≡ false → one_step code status m ≡ (false, record { status = status; machine = m })
   stays Going m e = absurd (true≢false e)
   stays Halted m e = refl
   stays Faulted m e = refl
@@ -79,7 +83,7 @@ module _ (code : List Instruction) where
           let more : left ≡ suc (left - 1) = omega arith in
           let exit : Bool = eqb (label_of m) (length code) in
           let going : before.status ≡ Going = stays_going (ltb 0 k) exit (steps_before_exit m o exit refl made) in
-          let turn : one code before.status m ≡ (true, arrived code o) = ap (λ s. one code s m) going ∙ ap (tried code m) made in
+          let turn : one_step code before.status m ≡ (true, arrived code o) = ap (λ s. one_step code s m) going ∙ ap (step_or_fault code m) made in
           so_far ∙ ap (counted k) (ap (λ c. run code c before) more ∙ made_one (left - 1) before (arrived code o) turn)
           ∙ (λ i. (sums (run code (left - 1) (arrived code o)).0 i, (run code (left - 1) (arrived code o)).1))
           ∙ ap (λ r. counted (k + 1) (run code (left - 1) r)) (arrives o)
@@ -106,7 +110,7 @@ module _ (code : List Instruction) where
       stuck_there true stuck = run_stopped left (of Halted m) refl
       stuck_there false stuck =
           let more : left ≡ suc (left - 1) = omega arith in
-          ap (λ c. run code c (of Going m)) more ∙ made_none (left - 1) (of Going m) (of Faulted m) (ap (tried code m) stuck)
+          ap (λ c. run code c (of Going m)) more ∙ made_none (left - 1) (of Going m) (of Faulted m) (ap (step_or_fault code m) stuck)
 
       going : (o : Option Machine) → step code m ≡ o → total ≡ counted k (run code left (settled k Going (code, of Going m)).1)
           → (false, after) ≡ stepped (code, of Going m) o
@@ -128,12 +132,12 @@ module _ (code : List Instruction) where
   run_over total k left r over so_far = ends_there total k left r r (ap (λ n. run code n r) over ∙ run_none r) so_far
 
   -- a fault or an exit: what no step leaves
-  stopped : (status : Status) (m : Machine) (after : RunState) → one code status m ≡ (false, after) → (is_going after.status ≡ false) × (after.machine ≡ m) × (TrueStatus code (record { status = status; machine = m }) → TrueStatus code after)
+  stopped : (status : Status) (m : Machine) (after : RunState) → one_step code status m ≡ (false, after) → (is_going after.status ≡ false) × (after.machine ≡ m) × (TrueStatus code (record { status = status; machine = m }) → TrueStatus code after)
   stopped Halted m after e = let same = ap (λ p. p.1) e in (ap (λ r. is_going r.status) (sym same), ap (λ r. r.machine) (sym same), λ t. subst (TrueStatus code) same t)
   stopped Faulted m after e = let same = ap (λ p. p.1) e in (ap (λ r. is_going r.status) (sym same), ap (λ r. r.machine) (sym same), λ t. subst (TrueStatus code) same t)
   stopped Going m after e = by_step (step code m) refl e
     where
-      by_step : (o : Option Machine) → step code m ≡ o → tried code m o ≡ (false, after) → (is_going after.status ≡ false) × (after.machine ≡ m) × (TrueStatus code (record { status = Going; machine = m }) → TrueStatus code after)
+      by_step : (o : Option Machine) → step code m ≡ o → step_or_fault code m o ≡ (false, after) → (is_going after.status ≡ false) × (after.machine ≡ m) × (TrueStatus code (record { status = Going; machine = m }) → TrueStatus code after)
       by_step None stuck e =
           let same = ap (λ p. p.1) e in (
             ap (λ r. is_going r.status) (sym same),
@@ -152,12 +156,12 @@ module _ (code : List Instruction) where
       by true e = rw e (record { halted_at_the_exit = sym e; faulted_without_a_rule = λ f. absurd (true≢false (ap is_halted f)) })
       by false e = rw e (record { halted_at_the_exit = sym e; faulted_without_a_rule = λ f. absurd (true≢false (ap is_going f)) })
 
-  went_on : (status : Status) (m : Machine) (after : RunState) → one code status m ≡ (true, after) → (code ⊢ m ⟶ after.machine) × TrueStatus code after
+  went_on : (status : Status) (m : Machine) (after : RunState) → one_step code status m ≡ (true, after) → (code ⊢ m ⟶ after.machine) × TrueStatus code after
   went_on Halted m after e = absurd (false≢true (ap (λ p. p.0) e))
   went_on Faulted m after e = absurd (false≢true (ap (λ p. p.0) e))
   went_on Going m after e = by_step (step code m) refl e
     where
-      by_step : (o : Option Machine) → step code m ≡ o → tried code m o ≡ (true, after) → (code ⊢ m ⟶ after.machine) × TrueStatus code after
+      by_step : (o : Option Machine) → step code m ≡ o → step_or_fault code m o ≡ (true, after) → (code ⊢ m ⟶ after.machine) × TrueStatus code after
       by_step None stuck e = absurd (false≢true (ap (λ p. p.0) e))
       by_step (Some n) made e =
           let same = ap (λ p. p.1) e in
@@ -166,9 +170,9 @@ module _ (code : List Instruction) where
   -- whole runs
   pub run_advances : (budget : ℕ) (r : RunState) → Advanced code budget (run code budget r).0 r (run code budget r).1
   run_advances zero r = rw (run_none r) (record { machine_steps = none; within_budget = omega arith; short_only_if_stopped = λ h. absurd (omega arith); status_stays_true = λ t. t })
-  run_advances (suc budget) r = by (one code r.status r.machine).0 (one code r.status r.machine).1 refl (run_advances budget)
+  run_advances (suc budget) r = by (one_step code r.status r.machine).0 (one_step code r.status r.machine).1 refl (run_advances budget)
     where
-      by : (b : Bool) (after : RunState) → one code r.status r.machine ≡ (b, after) → ((s : RunState) → Advanced code budget (run code budget s).0 s (run code budget s).1) → Advanced code (suc budget) (run code (suc budget) r).0 r (run code (suc budget) r).1
+      by : (b : Bool) (after : RunState) → one_step code r.status r.machine ≡ (b, after) → ((s : RunState) → Advanced code budget (run code budget s).0 s (run code budget s).1) → Advanced code (suc budget) (run code (suc budget) r).0 r (run code (suc budget) r).1
       by true after e rest =
           let unfolds : run code (suc budget) r ≡ counted 1 (run code budget after) = made_one budget r after e in
           let made = went_on r.status r.machine after e in

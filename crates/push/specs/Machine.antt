@@ -1,5 +1,5 @@
 -- The machine: its steps as a relation with a rule for each instruction, and as a function. Assumes nothing.
-use Rattle.std.specs.Prelude.{◌≡◌, ℕ, ◌+◌, ◌<◌, Bool, cond, List, [], ◌∷◌, length, drop, ℤ, pos, Some, None, Option, nat_lt, slice_index_or, slice_set, int_lt}
+use Rattle.std.specs.Prelude.{◌≡◌, ℕ, ◌+◌, ◌<◌, Bool, List, [], ◌∷◌, length, drop, ℤ, pos, Some, None, Option, nat_lt, slice_index_or, slice_set, int_lt, if◌then◌else◌, ◌↔◌}
 use Rattle.std.specs.Prelude as std
 use Rattle.push.specs.declared.instruction.Instruction.{Instruction}
 use Rattle.push.specs.declared.instruction.Instruction.TheVariants.{Load, Store, Push, Add, Sub, Eq, Less, Not, Goto, GotoF}
@@ -15,59 +15,76 @@ pub data Machine : Type 0 where
 infix 20 ◌⊢◌⟶◌
 -- The rules, one for each instruction. Where none applies there is no step.
 pub data ◌⊢◌⟶◌ (code : List Instruction) : Machine → Machine → Type 0 where
-  load : {l v : ℕ} {s : List Value} {vs : List ℤ} → fetch code l ≡ Some (Load v) → v < 32 → length s < 8 → code ⊢ at l s vs ⟶ at (l + 1) (Int (slice_index_or vs v (pos 0)) ∷ s) vs
-  store : {l v : ℕ} {t : ℤ} {s : List Value} {vs : List ℤ} → fetch code l ≡ Some (Store v) → v < 32 → code ⊢ at l (Int t ∷ s) vs ⟶ at (l + 1) s (slice_set vs v t)
-  push : {l : ℕ} {x : ℤ} {s : List Value} {vs : List ℤ} → fetch code l ≡ Some (Push x) → length s < 8 → code ⊢ at l s vs ⟶ at (l + 1) (Int x ∷ s) vs
-  add : {l : ℕ} {t u : ℤ} {s : List Value} {vs : List ℤ} → fetch code l ≡ Some Add → code ⊢ at l (Int t ∷ Int u ∷ s) vs ⟶ at (l + 1) (Int (sum u t) ∷ s) vs
-  sub : {l : ℕ} {t u : ℤ} {s : List Value} {vs : List ℤ} → fetch code l ≡ Some Sub → code ⊢ at l (Int t ∷ Int u ∷ s) vs ⟶ at (l + 1) (Int (difference u t) ∷ s) vs
-  eq : {l : ℕ} {t u : ℤ} {s : List Value} {vs : List ℤ} → fetch code l ≡ Some Eq → code ⊢ at l (Int t ∷ Int u ∷ s) vs ⟶ at (l + 1) (Flag (same u t) ∷ s) vs
-  less : {l : ℕ} {t u : ℤ} {s : List Value} {vs : List ℤ} → fetch code l ≡ Some Less → code ⊢ at l (Int t ∷ Int u ∷ s) vs ⟶ at (l + 1) (Flag (int_lt u t) ∷ s) vs
-  not : {l : ℕ} {b : Bool} {s : List Value} {vs : List ℤ} → fetch code l ≡ Some Not → code ⊢ at l (Flag b ∷ s) vs ⟶ at (l + 1) (Flag (std.not b) ∷ s) vs
-  goto : {l m : ℕ} {s : List Value} {vs : List ℤ} → fetch code l ≡ Some (Goto m) → code ⊢ at l s vs ⟶ at m s vs
-  gotof : {l m j : ℕ} {b : Bool} {s : List Value} {vs : List ℤ} → fetch code l ≡ Some (GotoF m j) → code ⊢ at l (Flag b ∷ s) vs ⟶ at (cond b (l + 1) m) s vs
+  load : {l v : ℕ} {s : List Value} {vs : List ℤ} →
+      fetch code l ≡ Some (Load v) → v < 32 → length s < 8 →
+      code ⊢ at l s vs ⟶ at (l + 1) (Int (slice_index_or vs v (pos 0)) ∷ s) vs
+  store : {l v : ℕ} {t : ℤ} {s : List Value} {vs : List ℤ} →
+      fetch code l ≡ Some (Store v) → v < 32 →
+      code ⊢ at l (Int t ∷ s) vs ⟶ at (l + 1) s (slice_set vs v t)
+  push : {l : ℕ} {x : ℤ} {s : List Value} {vs : List ℤ} →
+      fetch code l ≡ Some (Push x) → length s < 8 →
+      code ⊢ at l s vs ⟶ at (l + 1) (Int x ∷ s) vs
+  add : {l : ℕ} {t u : ℤ} {s : List Value} {vs : List ℤ} →
+      fetch code l ≡ Some Add →
+      code ⊢ at l (Int t ∷ Int u ∷ s) vs ⟶ at (l + 1) (Int (sum u t) ∷ s) vs
+  sub : {l : ℕ} {t u : ℤ} {s : List Value} {vs : List ℤ} →
+      fetch code l ≡ Some Sub →
+      code ⊢ at l (Int t ∷ Int u ∷ s) vs ⟶ at (l + 1) (Int (difference u t) ∷ s) vs
+  eq : {l : ℕ} {t u : ℤ} {s : List Value} {vs : List ℤ} →
+      fetch code l ≡ Some Eq →
+      code ⊢ at l (Int t ∷ Int u ∷ s) vs ⟶ at (l + 1) (Flag (same u t) ∷ s) vs
+  less : {l : ℕ} {t u : ℤ} {s : List Value} {vs : List ℤ} →
+      fetch code l ≡ Some Less →
+      code ⊢ at l (Int t ∷ Int u ∷ s) vs ⟶ at (l + 1) (Flag (int_lt u t) ∷ s) vs
+  not : {l : ℕ} {b : Bool} {s : List Value} {vs : List ℤ} →
+      fetch code l ≡ Some Not →
+      code ⊢ at l (Flag b ∷ s) vs ⟶ at (l + 1) (Flag (std.not b) ∷ s) vs
+  goto : {l m : ℕ} {s : List Value} {vs : List ℤ} →
+      fetch code l ≡ Some (Goto m) →
+      code ⊢ at l s vs ⟶ at m s vs
+  gotof : {l m j : ℕ} {b : Bool} {s : List Value} {vs : List ℤ} →
+      fetch code l ≡ Some (GotoF m j) →
+      code ⊢ at l (Flag b ∷ s) vs ⟶ at (if b then l + 1 else m) s vs
 
 -- What an instruction finds on top of a stack: an integer.
 abbrev pub integer_on : List Value → Option ℤ
-integer_on [] = None
 integer_on (Int t ∷ s) = Some t
-integer_on (Flag b ∷ s) = None
+integer_on _ = None
 
 -- Two integers: the one under the top, and the top.
 abbrev pub integers_on : List Value → Option (ℤ × ℤ)
-integers_on [] = None
-integers_on (Flag b ∷ s) = None
-integers_on (Int t ∷ []) = None
-integers_on (Int t ∷ Flag b ∷ s) = None
 integers_on (Int t ∷ Int u ∷ s) = Some (u, t)
+integers_on _ = None
 
 -- A boolean.
 abbrev pub flag_on : List Value → Option Bool
-flag_on [] = None
-flag_on (Int t ∷ s) = None
 flag_on (Flag b ∷ s) = Some b
+flag_on _ = None
 
 -- What each kind of instruction makes of it at a label, a stack and values.
 abbrev pub pushed : Value → ℕ → List Value → List ℤ → Option Machine
-pushed x l s vs = cond (nat_lt (length s) 8) (Some (at (l + 1) (x ∷ s) vs)) None
+pushed x l s vs = if nat_lt (length s) 8 then Some (at (l + 1) (x ∷ s) vs) else None
 
 abbrev pub loaded : ℕ → ℕ → List Value → List ℤ → Option Machine
-loaded v l s vs = cond (nat_lt v 32) (pushed (Int (slice_index_or vs v (pos 0))) l s vs) None
+loaded v l s vs = if nat_lt v 32 then pushed (Int (slice_index_or vs v (pos 0))) l s vs else None
 
 abbrev pub stored : ℕ → Option ℤ → ℕ → List Value → List ℤ → Option Machine
 stored v None l s vs = None
-stored v (Some t) l s vs = cond (nat_lt v 32) (Some (at (l + 1) (drop 1 s) (slice_set vs v t))) None
+stored v (Some t) l s vs =
+    if nat_lt v 32 then Some (at (l + 1) (drop 1 s) (slice_set vs v t)) else None
 
-abbrev pub combined : (ℤ → ℤ → Value) → Option (ℤ × ℤ) → ℕ → List Value → List ℤ → Option Machine
+abbrev pub combined :
+    (ℤ → ℤ → Value) → Option (ℤ × ℤ) → ℕ → List Value → List ℤ → Option Machine
 combined f None l s vs = None
 combined f (Some p) l s vs = Some (at (l + 1) (f p.0 p.1 ∷ drop 2 s) vs)
 
-abbrev pub turned : Option Bool → ℕ → List Value → List ℤ → Option Machine
-turned None l s vs = None
-turned (Some b) l s vs = Some (at (l + 1) (Flag (std.not b) ∷ drop 1 s) vs)
+abbrev pub negated : Option Bool → ℕ → List Value → List ℤ → Option Machine
+negated None l s vs = None
+negated (Some b) l s vs = Some (at (l + 1) (Flag (std.not b) ∷ drop 1 s) vs)
 
 abbrev pub branched : ℕ → Option Bool → ℕ → List Value → List ℤ → Option Machine
 branched m None l s vs = None
-branched m (Some b) l s vs = Some (at (cond b (l + 1) m) (drop 1 s) vs)
+branched m (Some b) l s vs = Some (at (if b then l + 1 else m) (drop 1 s) vs)
 
 abbrev pub perform : Option Instruction → ℕ → List Value → List ℤ → Option Machine
 perform None l s vs = None
@@ -78,7 +95,7 @@ perform (Some Add) l s vs = combined (λ u t. Int (sum u t)) (integers_on s) l s
 perform (Some Sub) l s vs = combined (λ u t. Int (difference u t)) (integers_on s) l s vs
 perform (Some Eq) l s vs = combined (λ u t. Flag (same u t)) (integers_on s) l s vs
 perform (Some Less) l s vs = combined (λ u t. Flag (int_lt u t)) (integers_on s) l s vs
-perform (Some Not) l s vs = turned (flag_on s) l s vs
+perform (Some Not) l s vs = negated (flag_on s) l s vs
 perform (Some (Goto m)) l s vs = Some (at m s vs)
 perform (Some (GotoF m j)) l s vs = branched m (flag_on s) l s vs
 
@@ -87,4 +104,5 @@ step code (at l s vs) = perform (fetch code l) l s vs
 
 -- Both say the same.
 abbrev pub StepFollowsTheRules : Type 0
-StepFollowsTheRules = (code : List Instruction) (m n : Machine) → (code ⊢ m ⟶ n → step code m ≡ Some n) × (step code m ≡ Some n → code ⊢ m ⟶ n)
+StepFollowsTheRules =
+    (code : List Instruction) (m n : Machine) → (code ⊢ m ⟶ n) ↔ (step code m ≡ Some n)

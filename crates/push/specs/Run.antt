@@ -1,5 +1,5 @@
 -- A run: a machine with its status, and what an advance makes of it. Assumes nothing.
-use Rattle.std.specs.Prelude.{◌≡◌, ◌≢◌, ℕ, zero, suc, ◌+◌, ◌<◌, ◌≤◌, Bool, true, false, cond, List, [], length, ℤ, Some, None, Option, ◌==◌}
+use Rattle.std.specs.Prelude.{◌≡◌, ◌≢◌, ℕ, zero, suc, ◌+◌, ◌<◌, ◌≤◌, Bool, true, false, List, [], length, ℤ, Some, None, Option, ◌==◌, if◌then◌else◌}
 use Rattle.push.specs.declared.instruction.Instruction.{Instruction}
 use Rattle.push.specs.declared.status.Status.{Status}
 use Rattle.push.specs.declared.status.Status.TheVariants.{Going, Halted, Faulted}
@@ -22,40 +22,33 @@ values_of (at l s vs) = vs
 
 -- A machine that has come to a label: at the exit it has halted.
 abbrev pub arrived : List Instruction → Machine → RunState
-arrived code m = record { status = cond (label_of m == length code) Halted Going; machine = m }
+arrived code m = record {
+  status = if label_of m == length code then Halted else Going;
+  machine = m;
+}
 
 -- A new run on values.
 abbrev pub begun : List Instruction → List ℤ → RunState
 begun code values = arrived code (at 0 [] values)
 
--- Whether a step is made, and the machine then.
-abbrev pub moved : Machine → Option Machine → Bool × Machine
-moved m None = (false, m)
-moved m (Some n) = (true, n)
+-- Whether a step is made, and the run then: by the machine that it leads to, if there is one. A fault changes the status
+-- alone.
+abbrev pub step_or_fault : List Instruction → Machine → Option Machine → Bool × RunState
+step_or_fault code m None = (false, record { status = Faulted; machine = m })
+step_or_fault code m (Some n) = (true, arrived code n)
 
--- A step is made, and this is the run then.
-abbrev pub went : RunState → Bool × RunState
-went r = (true, r)
-
--- Whether a step is made, and the run then. A fault changes the status alone.
-abbrev pub tried : List Instruction → Machine → Option Machine → Bool × RunState
-tried code m None = (false, record { status = Faulted; machine = m })
-tried code m (Some n) = went (arrived code n)
-
-abbrev pub one : List Instruction → Status → Machine → Bool × RunState
-one code Going m = tried code m (step code m)
-one code Halted m = (false, record { status = Halted; machine = m })
-one code Faulted m = (false, record { status = Faulted; machine = m })
+-- The same of a run, which makes no step once it has stopped.
+abbrev pub one_step : List Instruction → Status → Machine → Bool × RunState
+one_step code Going m = step_or_fault code m (step code m)
+one_step code status m = (false, record { status = status; machine = m })
 
 -- A run of at most so many steps: how many are made, and the run then.
-abbrev pub counted : ℕ → ℕ × RunState → ℕ × RunState
-counted k after = (k + after.0, after.1)
-
 unfoldable pub run : List Instruction → ℕ → RunState → ℕ × RunState
 run code zero r = (0, r)
 run code (suc k) r =
-    let next : Bool × RunState = one code r.status r.machine in
-    cond next.0 (counted 1 (run code k next.1)) (0, next.1)
+    let next : Bool × RunState = one_step code r.status r.machine in
+    let rest : ℕ × RunState = run code k next.1 in
+    if next.0 then (1 + rest.0, rest.1) else (0, next.1)
 
 -- So many steps of the machine.
 pub data Steps (code : List Instruction) : ℕ → Machine → Machine → Type 0 where
@@ -64,13 +57,11 @@ pub data Steps (code : List Instruction) : ℕ → Machine → Machine → Type 
 
 abbrev pub is_going : Status → Bool
 is_going Going = true
-is_going Halted = false
-is_going Faulted = false
+is_going _ = false
 
 abbrev pub is_halted : Status → Bool
-is_halted Going = false
 is_halted Halted = true
-is_halted Faulted = false
+is_halted _ = false
 
 -- A status is true of its machine: it is halted exactly at the exit, and faulted only where no rule applies.
 pub record TrueStatus (code : List Instruction) (r : RunState) : Type 0 where

@@ -1,5 +1,5 @@
 ghost use Rattle.std.specs.Prelude.{◌≡◌, ◌+◌, ◌<◌, ◌≤◌, true, [], ◌∷◌, length, drop, is_some, Some, None, MatchOption};
-ghost use Rattle.push.specs.Machine.{at, pushed, loaded, stored, turned, branched, integers_on, integer_on, flag_on, StepFollowsTheRules};
+ghost use Rattle.push.specs.Machine.{at, pushed, loaded, stored, negated, branched, integers_on, integer_on, flag_on, StepFollowsTheRules};
 ghost use Rattle.push.specs.Run.{begun, run, Advanced, TrueStatus, AdvancesTo, NewRunsAreTrue};
 
 use crate::VARIABLES;
@@ -114,7 +114,7 @@ impl Run {
             }
             (Status::Going, Some(Instruction::Eq)) => self.combine(|u, t| Value::Flag(u == t)),
             (Status::Going, Some(Instruction::Less)) => self.combine(|u, t| Value::Flag(u < t)),
-            (Status::Going, Some(Instruction::Not)) => self.turn(),
+            (Status::Going, Some(Instruction::Not)) => self.negate(),
             (Status::Going, Some(&Instruction::Goto(target))) => self.go(usize::from(target)),
             (Status::Going, Some(&Instruction::GotoF { target, .. })) => self.branch(target),
             (Status::Going, None) => None,
@@ -219,11 +219,11 @@ impl Run {
     }
 
     // Replaces the boolean on top by its opposite.
-    fn turn(&mut self) -> Option<()>
+    fn negate(&mut self) -> Option<()>
         requires { self.old.label < 128 }
         ensures { (is_some result, whole self.new)
             ≡ stepped (whole self.old)
-            (turned (flag_on self.old.stack) self.old.label self.old.stack self.old.values) }
+            (negated (flag_on self.old.stack) self.old.label self.old.stack self.old.values) }
     {
         let &[Value::Flag(flag), ..] = self.stack.places() else {
             return None;

@@ -1,7 +1,8 @@
 use Rattle.std.proofs.Common.{◌≡◌, ◌-◌}
 use Rattle.push.specs.declared.status.Status.TheVariants.{Going}
 use Rattle.push.specs.Of.{run_state, settled, whole}
-use Rattle.push.specs.Run.{counted, run}
+use Rattle.push.specs.Run.{run}
+use Rattle.push.proofs.RunFacts.{counted}
 use Rattle.push.proofs.run.Run.steps.Given as goal
 
 abbrev pub invariant-loop-steps : goal.invariant-loop-steps
