@@ -1,4 +1,6 @@
-// PUSH, a small stack language: its instructions, the kinds of its values, programs, and runs of them.
+//! PUSH, a small stack language, and the machine that runs it: its ten instructions, with the kinds that they pop and push
+//! and the labels that they go to; programs of them; and a run of a program, which makes steps until its budget is used
+//! up, or it comes to the exit, or no rule of the machine applies. Levels and claims are for the crates above.
 #![tactic(auto)]
 
 mod instruction;
@@ -15,11 +17,11 @@ pub use program::{Program, ProgramFull};
 pub use run::Run;
 pub use status::Status;
 
-// The places of the stack.
+/// How many places the stack has.
 pub const STACK_PLACES: usize = 8;
 
-// The most instructions of a program.
+/// The most instructions that a program has.
 pub const INSTRUCTIONS: usize = 128;
 
-// The variables, numbered from 0.
+/// How many variables there are, numbered from 0.
 pub const VARIABLES: usize = 32;

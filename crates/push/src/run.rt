@@ -26,7 +26,7 @@ impl Run {
 
     /// A run at label 0 with an empty stack, on the values of the variables. Without instructions it has halted.
     pub fn begin(program: Program, values: [i32; VARIABLES]) -> Self
-        ensures run { run_state result ≡ begun program values }
+        ensures is_a_new_run { run_state result ≡ begun program values }
         ensures same_program { result.program ≡ program }
     {
         let status = if program.len() == 0 {
@@ -45,8 +45,8 @@ impl Run {
 
     /// Makes steps until the run stops or `budget` are made, and answers the status then and how many were made.
     pub fn advance(&mut self, budget: u32) -> (Status, u32)
-        ensures run { (result.1, run_state self.new) ≡ run self.old.program budget (run_state self.old) }
-        ensures status { result.0 ≡ (run_state self.new).status }
+        ensures runs_the_budget { (result.1, run_state self.new) ≡ run self.old.program budget (run_state self.old) }
+        ensures answers_the_status { result.0 ≡ (run_state self.new).status }
         ensures same_program { self.new.program ≡ self.old.program }
         ensures makes_the_machines_steps { Advanced self.old.program budget result.1 (run_state self.old) (run_state self.new) }
         ensures follows_the_rules_of_an_advance { TrueStatus self.old.program (run_state self.old)
@@ -60,7 +60,7 @@ impl Run {
 
     /// The status, the program and the values that the run leaves.
     pub fn finish(self) -> (Status, Program, [i32; VARIABLES])
-        ensures { result ≡ (self.status, self.program, self.values) }
+        ensures hands_back_what_it_leaves { result ≡ (self.status, self.program, self.values) }
     {
         let values = self.values;
         (self.status, self.program, values)
@@ -69,7 +69,7 @@ impl Run {
     // Makes steps until none can be made or so many are made, and answers how many. A step does not write the status;
     // `settle` does, where the steps end: a status that each step wrote would be read again at the next.
     fn steps(&mut self, budget: u32) -> u32
-        ensures run { (result, run_state self.new) ≡ run self.old.program budget (run_state self.old) }
+        ensures runs_the_budget { (result, run_state self.new) ≡ run self.old.program budget (run_state self.old) }
         ensures same_program { self.new.program ≡ self.old.program }
     {
         for steps in 0..budget {

@@ -1,18 +1,18 @@
 ghost use Rattle.std.specs.Prelude.{◌≡◌};
 ghost use Rattle.push.specs.Run.{status_number};
 
-// Where a run stands.
+/// Where a run stands.
 #[derive(Clone, Copy, PartialEq, Eq, Debug)]
 pub enum Status {
-    // It is neither at the exit nor known to fault.
+    /// It is neither at the exit nor known to fault.
     Going,
-    // It is at the exit.
+    /// It is at the exit.
     Halted,
-    // No rule of the machine applies: the stack does not fit the instruction, or there is no such label or variable.
+    /// No rule of the machine applies: the stack does not fit the instruction, or there is no such label or variable.
     Faulted,
 }
 
-// The number that an advance answers for it.
+/// The number that an advance answers for it.
 impl From<Status> for u8 {
     ghost from_gives = { λ status number. number ≡ status_number status };
 

@@ -1,4 +1,4 @@
-// A place of the stack.
+// What a stack place holds.
 #[derive(Clone, Copy, PartialEq, Eq, Debug)]
 pub enum Value {
     Int(i32),

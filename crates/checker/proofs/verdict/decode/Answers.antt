@@ -1,5 +1,5 @@
-use Rattle.std.proofs.Common.{rules, ◌≡◌, ◌+◌, ◌<◌, Ok, cond, [], ◌∷◌, ◌++◌, length, sym, ap, ◌∙◌, arith, length-append}
-use Rattle.std.proofs.lemmas.Bool.{lt-ltb}
+use Rattle.std.proofs.Common.{rules, ◌≡◌, ◌+◌, ◌<◌, Result, Ok, Err, IsOk, OnOk, [], ◌∷◌, ◌++◌, length, sym, ap, ◌∙◌, arith, length-append}
+use Rattle.std.proofs.lemmas.Bool.{true≢false}
 use Rattle.std.proofs.lemmas.Result.{err_from_is_err_and}
 use Rattle.job.specs.Of.{sizes}
 use Rattle.job.specs.Records.{instruction_read}
@@ -9,8 +9,12 @@ use Rattle.job.proofs.FaultFacts.{record_is_some}
 use Rattle.checker.proofs.FirstFacts.{first_none, first_more, first_found}
 use Rattle.checker.proofs.verdict.decode.Goals as goal
 
+on_ok : {T E P : Type 0} → (r : Result T E) → IsOk r → OnOk r P → P
+on_ok (Ok _) ok there = there
+on_ok (Err _) ok there = absurd (true≢false (sym ok))
+
 pub loop-label-init : goal.loop-label-init
-loop-label-init c = (first_none _, c.empty-program.ensures ∙ sym (code_none _ _), ap length c.empty-program.ensures)
+loop-label-init c = (first_none _, c.empty-program.ensures.has_no_instructions ∙ sym (code_none _ _), ap length c.empty-program.ensures.has_no_instructions)
 
 pub loop-label-preserved : goal.loop-label-preserved
 loop-label-preserved c =
@@ -24,7 +28,7 @@ loop-label-preserved c =
     let read = was_read (instruction_at bytes s n) i told in
     let few : length before < 128 = omega (arith, c.loop-label.invariant.2, c.exit-label-end.ensures.is_the_number_of_instructions, c.requires) in
     let added : c.add.new.self ≡ before ++ (i ∷ []) =
-    c.add.ensures.after ∙ ap (λ b. cond b (before ++ (i ∷ [])) before) (c.add.ensures.room ∙ lt-ltb (length before) 128 few) in (
+    on_ok c.add.result (c.add.ensures.ok_exactly_below_128.1 few) c.add.ensures.added_at_the_end in (
       first_more (instruction_rule bytes s) n c.loop-label.invariant.0 (ap unlike_instruction read),
       added ∙ ap (λ is. is ++ (i ∷ [])) c.loop-label.invariant.1 ∙ sym (code_more bytes s n i read),
       ap length added ∙ length-append before (i ∷ []) ∙ ap (λ k. k + 1) c.loop-label.invariant.2,

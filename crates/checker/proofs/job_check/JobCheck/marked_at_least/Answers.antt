@@ -11,4 +11,4 @@ returns g c =
     let self = c.args.self.now in
     let region = c.args.region.now in
     let clear = is_surrounded_if_marked (g.L.Lattice.order self.lattice.now) (job_of self) region.guard region.marks.at in
-    all_in_range clear c.len-exit.result c.all.ensures.ran (cc) (λ x b q k. search (rules, tests)) ∙ ap (all_below clear) c.len-exit.ensures.value
+    all_in_range clear c.len-exit.result c.all.ensures.ran (cc) (λ x b q k. search (rules, tests)) ∙ ap (all_below clear) c.len-exit.ensures.counts_the_instructions

@@ -12,4 +12,4 @@ returns-clause-value g c =
     let all = leaves_length (g.L.Lattice.order self.check.now.lattice.now) self.check.now.levels.now (claimed_of self) self.instruction in
     let deep = depth_said self.check.now.job self.claim in
     let one = one_if_some (pushes self.instruction) in
-    omega (arith, all, deep, one, ap (λ p. bool_byte (is_some p)) c.pushes.ensures, ap bool_byte c.is_some.ensures)
+    omega (arith, all, deep, one, ap (λ p. bool_byte (is_some p)) c.pushes.ensures.is_the_kind_pushed, ap bool_byte c.is_some.ensures)

@@ -20,11 +20,11 @@ returns g c =
     elim c.match-pushed_place.branch [
       | in-Some-default w ↦
           let some : 0 < c.args.place = omega arith in
-          let at : c.match-pushed_place.below + c.popped.result ≡ c.args.place - 1 + k = omega (arith, w.below-is, c.popped.ensures.value) in
+          let at : c.match-pushed_place.below + c.popped.result ≡ c.args.place - 1 + k = omega (arith, w.below-is, c.popped.ensures.counts_the_kinds_popped) in
           c.raised.ensures ∙ ap f (c.claimed_place.ensures ∙ ap (λ m. get_or stack m (IntegerAt 0)) at)
           ∙ sym (below_pushed p _ f k c.args.place stack (IntegerAt 0) (sym c.pushed_place.ensures ∙ w.in-Some-default.is-0) some h)
       | in-None-default w ↦
-          let at : c.match-pushed_place.below + c.popped.result ≡ c.args.place + k = omega (arith, w.below-is, c.popped.ensures.value) in
+          let at : c.match-pushed_place.below + c.popped.result ≡ c.args.place + k = omega (arith, w.below-is, c.popped.ensures.counts_the_kinds_popped) in
           c.raised.ensures ∙ ap f (c.claimed_place.ensures ∙ ap (λ m. get_or stack m (IntegerAt 0)) at)
           ∙ sym (below_none p f k c.args.place stack (IntegerAt 0) (sym c.pushed_place.ensures ∙ w.in-None-default.is-0) h)
     ]

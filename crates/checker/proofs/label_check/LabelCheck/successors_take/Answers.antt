@@ -14,4 +14,4 @@ returns g c =
     let stack = leaves_of g.L.Lattice.order self in
     all_from_yields_List (takes o job stack) c.all.new.self _ c.all.result c.all.ensures.ran
     (YieldsList-from_options c.successors.result (cc) (cc) (cc) (cc) (λ x j b. b.0)) (λ x b q k. search (rules, tests))
-    ∙ ap (list_all (takes o job stack)) c.successors.ensures
+    ∙ ap (list_all (takes o job stack)) c.successors.ensures.lists_the_successors

@@ -10,8 +10,8 @@ loop-steps-init c =
     let nothing : (settled 0 Going (whole before)).1 ≡ run_state before = nothing_to_settle before.program before.status (run_state before).machine in
     record { same_program = search rules; so_far = rw nothing (search rules) }
 
-pub returns-then-is_none-clause-run : goal.returns-then-is_none-clause-run
-returns-then-is_none-clause-run c =
+pub returns-then-is_none-clause-runs_the_budget : goal.returns-then-is_none-clause-runs_the_budget
+returns-then-is_none-clause-runs_the_budget c =
     let before = c.loop-steps.self in
     let machine = (run_state before).machine in
     let none : (false, whole c.step.new.self) ≡ stepped (whole before) (next (whole before)) = search rules in
@@ -29,8 +29,8 @@ loop-steps-preserved c =
       so_far = rw left at (turn_made before.program _ _ _ before.status machine (whole c.step.new.self) (omega arith) c.loop-steps.invariant.so_far made);
     }
 
-pub returns-clause-run : goal.returns-clause-run
-returns-clause-run c =
+pub returns-clause-runs_the_budget : goal.returns-clause-runs_the_budget
+returns-clause-runs_the_budget c =
     let before = c.loop-steps.self in
     let settles = (settled c.loop-steps.steps Going (whole before)).1 in
     let over = run_over before.program _ c.loop-steps.steps (c.args.budget - c.loop-steps.steps) settles (omega arith) c.loop-steps.invariant.so_far in
