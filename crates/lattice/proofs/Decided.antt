@@ -31,7 +31,8 @@ module _ (o p : Order) (lo : Laws o) (lp : Laws p) (spans : o.span ≡ p.span) (
       ⊎_elim
       (λ (hb : b < o.span).
       same (o.join a b) (p.join a b)
-      (lo.join_least a b (p.join a b) (back a (p.join a b) (lp.join_left a b (there ha) (there hb))) (back b (p.join a b) (lp.join_right a b (there ha) (there hb))))
+      (lo.join_least a b (p.join a b)
+      (back a (p.join a b) (lp.join_left a b (there ha) (there hb))) (back b (p.join a b) (lp.join_right a b (there ha) (there hb))))
       (lp.join_least a b (o.join a b) (over a (o.join a b) (lo.join_left a b ha hb)) (over b (o.join a b) (lo.join_right a b ha hb))))
       (λ (hb : o.span ≤ b). lo.join_outside a b (inr hb) ∙ sym (lp.join_outside a b (outside (inr hb))))
       (cases_lt b o.span))

@@ -52,6 +52,15 @@ module _ (s : ℕ) (at_most : ℕ → ℕ → Bool) (join meet : ℕ → ℕ →
   at_none : (f : ℕ → ℕ → ℕ) (a b : ℕ) → (s ≤ a) ⊎ (s ≤ b) → cond (levels s a b) (f a b) 0 ≡ 0
   at_none f a b h = cond-false (levels s a b) (f a b) 0 (neither s at_most a b h)
 
+  -- a code and the value of an answer at two levels, either way round
+  under : (f : ℕ → ℕ → ℕ) (c a b : ℕ) → c < s → a < s → b < s → f a b < s →
+      at_most c (f a b) ≡ true → R c (cond (levels s a b) (f a b) 0) ≡ true
+  under f c a b hc ha hb level h = subst (λ x. R c x ≡ true) (at_levels f a b ha hb) (put s at_most c (f a b) hc level h)
+
+  over : (f : ℕ → ℕ → ℕ) (c a b : ℕ) → c < s → a < s → b < s → f a b < s →
+      at_most (f a b) c ≡ true → R (cond (levels s a b) (f a b) 0) c ≡ true
+  over f c a b hc ha hb level h = subst (λ x. R x c ≡ true) (at_levels f a b ha hb) (put s at_most (f a b) c level hc h)
+
   some_level : (x : ℕ) → 0 < s → x ≡ cond (nat_lt 0 s) x 0
   some_level x h = sym (cond-true (nat_lt 0 s) x 0 (lt-ltb 0 s h))
 
@@ -73,24 +82,30 @@ module _ (s : ℕ) (at_most : ℕ → ℕ → Bool) (join meet : ℕ → ℕ →
         let p = parts s at_most a b h in
         let q = parts s at_most b a i in
         k.antisymmetric a b p.0 p.1 p.2 q.2;
-    join_left = λ a b ha hb. subst (λ x. R a x ≡ true) (at_levels join a b ha hb) (put s at_most a (join a b) ha (k.join_level a b ha hb) (k.join_left a b ha hb));
-    join_right = λ a b ha hb. subst (λ x. R b x ≡ true) (at_levels join a b ha hb) (put s at_most b (join a b) hb (k.join_level a b ha hb) (k.join_right a b ha hb));
+    join_left = λ a b ha hb. under join a a b ha ha hb (k.join_level a b ha hb) (k.join_left a b ha hb);
+    join_right = λ a b ha hb. under join b a b hb ha hb (k.join_level a b ha hb) (k.join_right a b ha hb);
     join_least =
         λ a b c h i.
         let p = parts s at_most a c h in
         let q = parts s at_most b c i in
-        subst (λ x. R x c ≡ true) (at_levels join a b p.0 q.0) (put s at_most (join a b) c (k.join_level a b p.0 q.0) p.1 (k.join_least a b c p.0 q.0 p.1 p.2 q.2));
-    meet_left = λ a b ha hb. subst (λ x. R x a ≡ true) (at_levels meet a b ha hb) (put s at_most (meet a b) a (k.meet_level a b ha hb) ha (k.meet_left a b ha hb));
-    meet_right = λ a b ha hb. subst (λ x. R x b ≡ true) (at_levels meet a b ha hb) (put s at_most (meet a b) b (k.meet_level a b ha hb) hb (k.meet_right a b ha hb));
+        over join c a b p.1 p.0 q.0 (k.join_level a b p.0 q.0) (k.join_least a b c p.0 q.0 p.1 p.2 q.2);
+    meet_left = λ a b ha hb. over meet a a b ha ha hb (k.meet_level a b ha hb) (k.meet_left a b ha hb);
+    meet_right = λ a b ha hb. over meet b a b hb ha hb (k.meet_level a b ha hb) (k.meet_right a b ha hb);
     meet_greatest =
         λ a b c h i.
         let p = parts s at_most c a h in
         let q = parts s at_most c b i in
-        subst (λ x. R c x ≡ true) (at_levels meet a b p.1 q.1) (put s at_most c (meet a b) p.0 (k.meet_level a b p.1 q.1) (k.meet_greatest a b c p.1 q.1 p.0 p.2 q.2));
+        under meet c a b p.0 p.1 q.1 (k.meet_level a b p.1 q.1) (k.meet_greatest a b c p.1 q.1 p.0 p.2 q.2);
     join_outside = at_none join;
     meet_outside = at_none meet;
-    lowest_least = λ a h. subst (λ x. R x a ≡ true) (some_level lowest (omega arith)) (put s at_most lowest a (k.lowest_level (omega arith)) h (k.lowest_least a h));
-    highest_greatest = λ a h. subst (λ x. R a x ≡ true) (some_level highest (omega arith)) (put s at_most a highest h (k.highest_level (omega arith)) (k.highest_greatest a h));
+    lowest_least =
+        λ a h.
+        let some : 0 < s = omega arith in
+        subst (λ x. R x a ≡ true) (some_level lowest some) (put s at_most lowest a (k.lowest_level some) h (k.lowest_least a h));
+    highest_greatest =
+        λ a h.
+        let some : 0 < s = omega arith in
+        subst (λ x. R a x ≡ true) (some_level highest some) (put s at_most a highest h (k.highest_level some) (k.highest_greatest a h));
     lowest_of_none = no_level lowest;
     highest_of_none = no_level highest;
   }

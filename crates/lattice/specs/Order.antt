@@ -18,10 +18,12 @@ pub record Laws (o : Order) : Type 0 where
   pub antisymmetric : (a b : ℕ) → o.at_most a b ≡ true → o.at_most b a ≡ true → a ≡ b
   pub join_left : (a b : ℕ) → a < o.span → b < o.span → o.at_most a (o.join a b) ≡ true
   pub join_right : (a b : ℕ) → a < o.span → b < o.span → o.at_most b (o.join a b) ≡ true
-  pub join_least : (a b c : ℕ) → o.at_most a c ≡ true → o.at_most b c ≡ true → o.at_most (o.join a b) c ≡ true
+  pub join_least : (a b c : ℕ) →
+      o.at_most a c ≡ true → o.at_most b c ≡ true → o.at_most (o.join a b) c ≡ true
   pub meet_left : (a b : ℕ) → a < o.span → b < o.span → o.at_most (o.meet a b) a ≡ true
   pub meet_right : (a b : ℕ) → a < o.span → b < o.span → o.at_most (o.meet a b) b ≡ true
-  pub meet_greatest : (a b c : ℕ) → o.at_most c a ≡ true → o.at_most c b ≡ true → o.at_most c (o.meet a b) ≡ true
+  pub meet_greatest : (a b c : ℕ) →
+      o.at_most c a ≡ true → o.at_most c b ≡ true → o.at_most c (o.meet a b) ≡ true
   -- codes that are no level
   pub join_outside : (a b : ℕ) → (o.span ≤ a) ⊎ (o.span ≤ b) → o.join a b ≡ 0
   pub meet_outside : (a b : ℕ) → (o.span ≤ a) ⊎ (o.span ≤ b) → o.meet a b ≡ 0

@@ -56,6 +56,21 @@ module _ (o p : Order) where
       (subst (λ n. p.at_most n (a % p.span) ≡ true) (sym (mod-mul-add x p.span y hy)) k)
 
 module _ (o p : Order) (lo : Laws o) (lp : Laws p) where
+  -- the joins and the meets of the parts of two levels are levels
+  join_parts : (a b : ℕ) → a < pair_span o p → b < pair_span o p →
+      (o.join (a / p.span) (b / p.span) < o.span) × (p.join (a % p.span) (b % p.span) < p.span)
+  join_parts a b ha hb = (
+    join_level o lo (a / p.span) (b / p.span) (first_part o p a ha) (first_part o p b hb),
+    join_level p lp (a % p.span) (b % p.span) (second_part o p a ha) (second_part o p b hb),
+  )
+
+  meet_parts : (a b : ℕ) → a < pair_span o p → b < pair_span o p →
+      (o.meet (a / p.span) (b / p.span) < o.span) × (p.meet (a % p.span) (b % p.span) < p.span)
+  meet_parts a b ha hb = (
+    meet_level o lo (a / p.span) (b / p.span) (first_part o p a ha) (first_part o p b hb),
+    meet_level p lp (a % p.span) (b % p.span) (second_part o p a ha) (second_part o p b hb),
+  )
+
   pub pair_laws : Laws (pair o p)
   pair_laws =
       let s = p.span in
@@ -75,31 +90,57 @@ module _ (o p : Order) (lo : Laws o) (lp : Laws p) where
             λ a b ha hb h k.
             let x = apart o p a b h in
             let y = apart o p b a k in
-            sym (div-add-mod' a s) ∙ ap₂ (λ (m n : ℕ). m * s + n) (lo.antisymmetric (a / s) (b / s) x.0 y.0) (lp.antisymmetric (a % s) (b % s) x.1 y.1) ∙ div-add-mod' b s;
+            let firsts = lo.antisymmetric (a / s) (b / s) x.0 y.0 in
+            let seconds = lp.antisymmetric (a % s) (b % s) x.1 y.1 in
+            sym (div-add-mod' a s) ∙ ap₂ (λ (m n : ℕ). m * s + n) firsts seconds ∙ div-add-mod' b s;
         join_level =
-            λ a b ha hb. code_level o p a (o.join (a / s) (b / s)) (p.join (a % s) (b % s)) ha (join_level o lo (a / s) (b / s) (first a ha) (first b hb)) (join_level p lp (a % s) (b % s) (second a ha) (second b hb));
+            λ a b ha hb.
+            let levels = join_parts a b ha hb in
+            code_level o p a (o.join (a / s) (b / s)) (p.join (a % s) (b % s)) ha levels.0 levels.1;
         join_left =
-            λ a b ha hb. under_code o p a (o.join (a / s) (b / s)) (p.join (a % s) (b % s)) (join_level p lp (a % s) (b % s) (second a ha) (second b hb)) (lo.join_left (a / s) (b / s) (first a ha) (first b hb)) (lp.join_left (a % s) (b % s) (second a ha) (second b hb));
+            λ a b ha hb.
+            under_code o p a (o.join (a / s) (b / s)) (p.join (a % s) (b % s)) (join_parts a b ha hb).1
+            (lo.join_left (a / s) (b / s) (first a ha) (first b hb)) (lp.join_left (a % s) (b % s) (second a ha) (second b hb));
         join_right =
-            λ a b ha hb. under_code o p b (o.join (a / s) (b / s)) (p.join (a % s) (b % s)) (join_level p lp (a % s) (b % s) (second a ha) (second b hb)) (lo.join_right (a / s) (b / s) (first a ha) (first b hb)) (lp.join_right (a % s) (b % s) (second a ha) (second b hb));
+            λ a b ha hb.
+            under_code o p b (o.join (a / s) (b / s)) (p.join (a % s) (b % s)) (join_parts a b ha hb).1
+            (lo.join_right (a / s) (b / s) (first a ha) (first b hb)) (lp.join_right (a % s) (b % s) (second a ha) (second b hb));
         join_least =
             λ a b c ha hb hc h k.
             let x = apart o p a c h in
             let y = apart o p b c k in
-            over_code o p c (o.join (a / s) (b / s)) (p.join (a % s) (b % s)) (join_level p lp (a % s) (b % s) (second a ha) (second b hb)) (lo.join_least (a / s) (b / s) (c / s) x.0 y.0) (lp.join_least (a % s) (b % s) (c % s) x.1 y.1);
+            over_code o p c (o.join (a / s) (b / s)) (p.join (a % s) (b % s)) (join_parts a b ha hb).1
+            (lo.join_least (a / s) (b / s) (c / s) x.0 y.0) (lp.join_least (a % s) (b % s) (c % s) x.1 y.1);
         meet_level =
-            λ a b ha hb. code_level o p a (o.meet (a / s) (b / s)) (p.meet (a % s) (b % s)) ha (meet_level o lo (a / s) (b / s) (first a ha) (first b hb)) (meet_level p lp (a % s) (b % s) (second a ha) (second b hb));
+            λ a b ha hb.
+            let levels = meet_parts a b ha hb in
+            code_level o p a (o.meet (a / s) (b / s)) (p.meet (a % s) (b % s)) ha levels.0 levels.1;
         meet_left =
-            λ a b ha hb. over_code o p a (o.meet (a / s) (b / s)) (p.meet (a % s) (b % s)) (meet_level p lp (a % s) (b % s) (second a ha) (second b hb)) (lo.meet_left (a / s) (b / s) (first a ha) (first b hb)) (lp.meet_left (a % s) (b % s) (second a ha) (second b hb));
+            λ a b ha hb.
+            over_code o p a (o.meet (a / s) (b / s)) (p.meet (a % s) (b % s)) (meet_parts a b ha hb).1
+            (lo.meet_left (a / s) (b / s) (first a ha) (first b hb)) (lp.meet_left (a % s) (b % s) (second a ha) (second b hb));
         meet_right =
-            λ a b ha hb. over_code o p b (o.meet (a / s) (b / s)) (p.meet (a % s) (b % s)) (meet_level p lp (a % s) (b % s) (second a ha) (second b hb)) (lo.meet_right (a / s) (b / s) (first a ha) (first b hb)) (lp.meet_right (a % s) (b % s) (second a ha) (second b hb));
+            λ a b ha hb.
+            over_code o p b (o.meet (a / s) (b / s)) (p.meet (a % s) (b % s)) (meet_parts a b ha hb).1
+            (lo.meet_right (a / s) (b / s) (first a ha) (first b hb)) (lp.meet_right (a % s) (b % s) (second a ha) (second b hb));
         meet_greatest =
             λ a b c ha hb hc h k.
             let x = apart o p c a h in
             let y = apart o p c b k in
-            under_code o p c (o.meet (a / s) (b / s)) (p.meet (a % s) (b % s)) (meet_level p lp (a % s) (b % s) (second a ha) (second b hb)) (lo.meet_greatest (a / s) (b / s) (c / s) x.0 y.0) (lp.meet_greatest (a % s) (b % s) (c % s) x.1 y.1);
-        lowest_level = λ h. code_level o p 0 o.lowest p.lowest h (lowest_level o lo (first_span o p 0 h)) (lowest_level p lp (second_span o p 0 h));
-        lowest_least = λ a h. over_code o p a o.lowest p.lowest (lowest_level p lp (second_span o p a h)) (lo.lowest_least (a / s) (first a h)) (lp.lowest_least (a % s) (second a h));
-        highest_level = λ h. code_level o p 0 o.highest p.highest h (highest_level o lo (first_span o p 0 h)) (highest_level p lp (second_span o p 0 h));
-        highest_greatest = λ a h. under_code o p a o.highest p.highest (highest_level p lp (second_span o p a h)) (lo.highest_greatest (a / s) (first a h)) (lp.highest_greatest (a % s) (second a h));
+            under_code o p c (o.meet (a / s) (b / s)) (p.meet (a % s) (b % s)) (meet_parts a b ha hb).1
+            (lo.meet_greatest (a / s) (b / s) (c / s) x.0 y.0) (lp.meet_greatest (a % s) (b % s) (c % s) x.1 y.1);
+        lowest_level =
+            λ h.
+            code_level o p 0 o.lowest p.lowest h (lowest_level o lo (first_span o p 0 h)) (lowest_level p lp (second_span o p 0 h));
+        lowest_least =
+            λ a h.
+            over_code o p a o.lowest p.lowest (lowest_level p lp (second_span o p a h))
+            (lo.lowest_least (a / s) (first a h)) (lp.lowest_least (a % s) (second a h));
+        highest_level =
+            λ h.
+            code_level o p 0 o.highest p.highest h (highest_level o lo (first_span o p 0 h)) (highest_level p lp (second_span o p 0 h));
+        highest_greatest =
+            λ a h.
+            under_code o p a o.highest p.highest (highest_level p lp (second_span o p a h))
+            (lo.highest_greatest (a / s) (first a h)) (lp.highest_greatest (a % s) (second a h));
       }

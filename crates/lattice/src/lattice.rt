@@ -1,8 +1,8 @@
-ghost use Rattle.std.specs.Prelude.{◌≡◌, Some, None, nat_lt, cond};
+ghost use Rattle.std.specs.Prelude.{◌≡◌, Some, None, nat_lt, if◌then◌else◌};
 ghost use Rattle.lattice.specs.Order.{Order, Laws};
 ghost use Rattle.lattice.specs.Kinds.{levels};
 
-/// A lattice of levels. Its levels are the codes below its span.
+/// A finite lattice of security levels. Its levels are the codes below its span.
 pub trait Lattice {
     ghost order: { Self → Order };
 
@@ -32,14 +32,15 @@ pub trait Lattice {
 
     /// Whether a code is a level.
     fn is_level(&self, code: u16) -> bool
-        ensures { result ≡ nat_lt code (order self.now).span }
+        ensures levels_are_the_codes_below_the_span { result ≡ nat_lt code (order self.now).span }
     {
         u32::from(code) < self.span()
     }
 
     /// Two codes, where both are levels.
     fn both_levels(&self, a: u16, b: u16) -> Option<(u16, u16)>
-        ensures { result ≡ cond (levels (order self.now).span a b) (Some (a, b)) None }
+        ensures some_where_both_are_levels { result
+            ≡ (if levels (order self.now).span a b then Some (a, b) else None) }
     {
         (self.is_level(a) && self.is_level(b)).then_some((a, b))
     }

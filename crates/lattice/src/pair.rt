@@ -1,4 +1,4 @@
-ghost use Rattle.std.specs.Prelude.{◌≡◌, ℕ, Some, ◌*◌, ◌<◌, ◌≤◌, ◌&&◌, MatchBool, cond, nat_lt};
+ghost use Rattle.std.specs.Prelude.{◌≡◌, ℕ, Some, ◌*◌, ◌<◌, ◌≤◌, ◌&&◌, MatchBool, nat_lt, if◌then◌else◌};
 ghost use Rattle.lattice.specs.Order.{Order};
 ghost use Rattle.lattice.specs.Kinds.{pair as pair_order, pair_span, pair_at_most, code as code_of, parts_of, PartsAreLevels, KeepsLevels, IsPartByPart, levels};
 ghost use Rattle.lattice.specs.PairLaws.{pair_laws};
@@ -31,8 +31,10 @@ impl<A: Lattice, B: Lattice> Pair<A, B> {
     // The two parts of a level; none of a code that is no level.
     #[tactic(auto, using(crate::specs::PairLaws::first_part))]
     fn parts(&self, code: u16) -> Option<(u16, u16)>
-        ensures value { result ≡ parts_of (A.Lattice.order self.now.first) (B.Lattice.order self.now.second) code }
-        ensures levels { PartsAreLevels (A.Lattice.order self.now.first) (B.Lattice.order self.now.second) result }
+        ensures are_those_of_the_code { result
+            ≡ parts_of (A.Lattice.order self.now.first) (B.Lattice.order self.now.second) code }
+        ensures are_levels { PartsAreLevels
+            (A.Lattice.order self.now.first) (B.Lattice.order self.now.second) result }
     {
         self.is_level(code).then(|| {
             let row = self.second.span();
@@ -43,7 +45,8 @@ impl<A: Lattice, B: Lattice> Pair<A, B> {
 
     // The level of two parts.
     fn compose(&self, first: u16, second: u16) -> u16
-        requires { PartsAreLevels (A.Lattice.order self.now.first) (B.Lattice.order self.now.second) (Some (first, second)) }
+        requires { PartsAreLevels
+            (A.Lattice.order self.now.first) (B.Lattice.order self.now.second) (Some (first, second)) }
         ensures { result ≡ code_of (B.Lattice.order self.now.second) first second }
     {
         (u32::from(first) * self.second.span() + u32::from(second)) as u16
@@ -61,7 +64,11 @@ impl<A: Lattice, B: Lattice> Pair<A, B> {
         requires second_callable { G.IsAlwaysCallable second }
         requires first_level { KeepsLevels (A.Lattice.order self.now.first) (F.post first) }
         requires second_level { KeepsLevels (B.Lattice.order self.now.second) (G.post second) }
-        ensures { MatchBool (levels (pair_span (A.Lattice.order self.now.first) (B.Lattice.order self.now.second)) a b) (IsPartByPart (B.Lattice.order self.now.second) (F.post first) (G.post second) a b result) (result ≡ 0) }
+        ensures { let o : Order = A.Lattice.order self.now.first in
+            let p : Order = B.Lattice.order self.now.second in
+            MatchBool (levels (pair_span o p) a b)
+            (IsPartByPart p (F.post first) (G.post second) a b result)
+            (result ≡ 0) }
     {
         // Not by `map_or`: inside its closure no proof is found of what `compose` requires.
         let Some(((a1, a2), (b1, b2))) = self.parts(a).zip(self.parts(b)) else {
@@ -72,9 +79,13 @@ impl<A: Lattice, B: Lattice> Pair<A, B> {
 
     // The level of two parts that are ends; 0 where there are no levels.
     fn end(&self, first: u16, second: u16) -> u16
-        requires first_level { 0 < (A.Lattice.order self.now.first).span → first < (A.Lattice.order self.now.first).span }
-        requires second_level { 0 < (B.Lattice.order self.now.second).span → second < (B.Lattice.order self.now.second).span }
-        ensures { result ≡ cond (nat_lt 0 (pair_span (A.Lattice.order self.now.first) (B.Lattice.order self.now.second))) (code_of (B.Lattice.order self.now.second) first second) 0 }
+        requires first_level { let o : Order = A.Lattice.order self.now.first in
+            0 < o.span → first < o.span }
+        requires second_level { let p : Order = B.Lattice.order self.now.second in
+            0 < p.span → second < p.span }
+        ensures { let o : Order = A.Lattice.order self.now.first in
+            let p : Order = B.Lattice.order self.now.second in
+            result ≡ (if nat_lt 0 (pair_span o p) then code_of p first second else 0) }
     {
         if self.span() == 0 {
             0

@@ -105,4 +105,4 @@ step code (at l s vs) = perform (fetch code l) l s vs
 -- Both say the same.
 abbrev pub StepFollowsTheRules : Type 0
 StepFollowsTheRules =
-    (code : List Instruction) (m n : Machine) → (code ⊢ m ⟶ n) ↔ (step code m ≡ Some n)
+    (code : List Instruction) (m n : Machine) → ((code ⊢ m ⟶ n) ↔ (step code m ≡ Some n))
