@@ -1,5 +1,6 @@
-// Lattices of levels: six questions about a finite order, one meaning and one law for all who answer them, and the
-// kinds that suppliers use.
+//! Lattices of security levels: six questions about a finite order, one meaning and one law for all who answer them, and
+//! the kinds that suppliers use: a ladder of grades, sets of owners, a lattice upside down, and two side by side. A level
+//! is a number; nothing above this crate looks into a kind.
 #![tactic(auto)]
 
 mod flip;

@@ -70,7 +70,7 @@ impl<A: Lattice, B: Lattice> Pair<A, B> {
             (IsPartByPart p (F.post first) (G.post second) a b result)
             (result ≡ 0) }
     {
-        // Not by `map_or`: inside its closure no proof is found of what `compose` requires.
+        // Not by `map_or`: in its closure it is not proved that the parts are levels, as `compose` requires.
         let Some(((a1, a2), (b1, b2))) = self.parts(a).zip(self.parts(b)) else {
             return 0;
         };
