@@ -6,35 +6,26 @@ use Rattle.push.specs.declared.instruction.Instruction.{Instruction}
 use Rattle.push.specs.declared.status.Status.{Status}
 use Rattle.push.specs.declared.status.Status.TheVariants.{Going, Halted, Faulted}
 use Rattle.push.specs.Machine.{Machine, step, ◌⊢◌⟶◌}
-use Rattle.push.specs.Run.{RunState, arrived, run, step_or_fault, is_going, is_halted, label_of, Steps, none, more, AdvancesTo, stays, goes_on, halts, faults}
+use Rattle.push.specs.Run.{RunState, going_at, halted_at, faulted_at, arrived, run, step_or_fault, is_going, is_halted, label_of, Steps, none, more, AdvancesTo, stays, goes_on, halts, faults}
 use Rattle.push.proofs.StepFacts.{rule_steps, steps_by_rule}
 use Rattle.push.proofs.RunFacts.{counted, run_none, run_stopped, made_one, made_none, no_step_at_exit, arrived_true}
 
 module _ (code : List Instruction) where
-  abbrev going : Machine → RunState
-  going m = record { status = Going; machine = m }
-
-  abbrev halted : Machine → RunState
-  halted m = record { status = Halted; machine = m }
-
-  abbrev faulted : Machine → RunState
-  faulted m = record { status = Faulted; machine = m }
-
   -- a machine that has come to the exit has halted, and elsewhere it is going
-  at_exit : (m : Machine) → label_of m ≡ length code → arrived code m ≡ halted m
+  at_exit : (m : Machine) → label_of m ≡ length code → arrived code m ≡ halted_at m
   at_exit m exit = ap (λ b. record { status = cond b Halted Going; machine = m }) (eq-eqb (label_of m) (length code) exit)
 
-  before_exit : (m : Machine) → label_of m ≢ length code → arrived code m ≡ going m
+  before_exit : (m : Machine) → label_of m ≢ length code → arrived code m ≡ going_at m
   before_exit m before = by (eqb (label_of m) (length code)) refl
     where
-      by : (b : Bool) → eqb (label_of m) (length code) ≡ b → record { status = cond b Halted Going; machine = m } ≡ going m
+      by : (b : Bool) → eqb (label_of m) (length code) ≡ b → record { status = cond b Halted Going; machine = m } ≡ going_at m
       by true e = absurd (before (eqb-true (label_of m) (length code) e))
       by false e = refl
 
   rule_before_exit : {m n : Machine} → code ⊢ m ⟶ n → label_of m ≢ length code
   rule_before_exit {m} {n} rule exit = none-some n (sym (no_step_at_exit code m exit) ∙ rule_steps code rule)
 
-  begins_going : {count : ℕ} {m n : Machine} → Steps code count m n → (label_of n ≡ length code → 0 < count) → arrived code m ≡ going m
+  begins_going : {count : ℕ} {m n : Machine} → Steps code count m n → (label_of n ≡ length code → 0 < count) → arrived code m ≡ going_at m
   begins_going {m = m} none some = before_exit m (λ exit. absurd (omega (arith, some exit)))
   begins_going {m = m} (more rule rest) some = before_exit m (rule_before_exit rule)
 
@@ -49,8 +40,8 @@ module _ (code : List Instruction) where
   steps_first (more {k = k} {m = m} {n = n} {o = o} rule rest) left =
       let more_left : k + 1 + left ≡ suc (k + left) = omega arith in
       ap (λ r. run code (k + 1 + left) r) (before_exit m (rule_before_exit rule))
-      ∙ ap (λ b. run code b (going m)) more_left
-      ∙ made_one code (k + left) (going m) (arrived code n) (ap (step_or_fault code m) (rule_steps code rule))
+      ∙ ap (λ b. run code b (going_at m)) more_left
+      ∙ made_one code (k + left) (going_at m) (arrived code n) (ap (step_or_fault code m) (rule_steps code rule))
       ∙ ap (counted 1) (steps_first rest left)
       ∙ counted_twice k (run code left (arrived code o))
 
@@ -63,7 +54,7 @@ module _ (code : List Instruction) where
       ∙ ap (λ b. run code b (arrived code m)) (sym all)
       ∙ steps_first steps 0
       ∙ ap (counted budget) (run_none code (arrived code n) ∙ ap (λ r. (0, r)) (before_exit n before))
-      ∙ ap (λ c. (c, going n)) all
+      ∙ ap (λ c. (c, going_at n)) all
   advance_runs {budget = budget} (halts {count = count} {m = m} {n = n} steps some within exit) =
       let all : count + (budget - count) ≡ budget = omega arith in
       let none_more : count + 0 ≡ count = omega arith in
@@ -71,8 +62,8 @@ module _ (code : List Instruction) where
       ∙ ap (λ b. run code b (arrived code m)) (sym all)
       ∙ steps_first steps (budget - count)
       ∙ ap (λ r. counted count (run code (budget - count) r)) (at_exit n exit)
-      ∙ ap (counted count) (run_stopped code (budget - count) (halted n) refl)
-      ∙ ap (λ c. (c, halted n)) none_more
+      ∙ ap (counted count) (run_stopped code (budget - count) (halted_at n) refl)
+      ∙ ap (λ c. (c, halted_at n)) none_more
   advance_runs {budget = budget} (faults {count = count} {m = m} {n = n} steps within before stuck) =
       let all : count + suc (budget - count - 1) ≡ budget = omega arith in
       let none_more : count + 0 ≡ count = omega arith in
@@ -80,8 +71,8 @@ module _ (code : List Instruction) where
       ∙ ap (λ b. run code b (arrived code m)) (sym all)
       ∙ steps_first steps (suc (budget - count - 1))
       ∙ ap (λ r. counted count (run code (suc (budget - count - 1)) r)) (before_exit n before)
-      ∙ ap (counted count) (made_none code (budget - count - 1) (going n) (faulted n) (ap (step_or_fault code n) (nowhere (step code n) refl)))
-      ∙ ap (λ c. (c, faulted n)) none_more
+      ∙ ap (counted count) (made_none code (budget - count - 1) (going_at n) (faulted_at n) (ap (step_or_fault code n) (nowhere (step code n) refl)))
+      ∙ ap (λ c. (c, faulted_at n)) none_more
     where
       nowhere : (o : Option Machine) → step code n ≡ o → step code n ≡ None
       nowhere None e = e
@@ -90,19 +81,19 @@ module _ (code : List Instruction) where
   -- a step before an advance
   step_before : {m n : Machine} {before after : RunState} {b count : ℕ} → code ⊢ m ⟶ n →
       (budget total : ℕ) → budget ≡ b + 1 → total ≡ count + 1 →
-      before ≡ arrived code n → AdvancesTo code b before count after → AdvancesTo code budget (going m) total after
+      before ≡ arrived code n → AdvancesTo code b before count after → AdvancesTo code budget (going_at m) total after
   step_before {m = m} {n = n} rule budget total one_more counts e (stays {r = r} stopped) = by (eqb (label_of n) (length code)) refl
     where
-      by : (b : Bool) → eqb (label_of n) (length code) ≡ b → AdvancesTo code budget (going m) total r
+      by : (b : Bool) → eqb (label_of n) (length code) ≡ b → AdvancesTo code budget (going_at m) total r
       by true exit =
           let label = eqb-true (label_of n) (length code) exit in
           let steps = subst (λ k. Steps code k m n) (sym counts) (more rule none) in
-          subst (AdvancesTo code budget (going m) total) (sym (e ∙ at_exit n label)) (halts steps (omega arith) (omega arith) label)
+          subst (AdvancesTo code budget (going_at m) total) (sym (e ∙ at_exit n label)) (halts steps (omega arith) (omega arith) label)
       by false exit = absurd (false≢true (sym stopped ∙ ap (λ s. is_going s.status) (e ∙ before_exit n (eqb-false (label_of n) (length code) exit))))
   step_before {m = m} {b = b} rule budget total one_more counts e (goes_on {n = n'} steps before) =
       let all : budget ≡ total = omega arith in
       let on = subst (λ k. Steps code k m n') (sym one_more) (more rule (subst (λ x. Steps code b x n') (ap (λ r. r.machine) e) steps)) in
-      subst (λ k. AdvancesTo code budget (going m) k (going n')) all (goes_on on before)
+      subst (λ k. AdvancesTo code budget (going_at m) k (going_at n')) all (goes_on on before)
   step_before {m = m} rule budget total one_more counts e (halts {count = count} {n = n'} steps some within exit) =
       let on = subst (λ k. Steps code k m n') (sym counts) (more rule (subst (λ x. Steps code count x n') (ap (λ r. r.machine) e) steps)) in
       halts on (omega arith) (omega arith) exit
@@ -117,18 +108,18 @@ module _ (code : List Instruction) where
       is_halted status ≡ eqb (label_of m) (length code) → AdvancesTo code budget r (run code budget r).0 (run code budget r).1
 
   pub run_advances_to : (budget : ℕ) (status : Status) (m : Machine) → RunIsByRules budget status m
-  run_advances_to budget Halted m honest = rw (run_stopped code budget (halted m) refl) (stays refl)
-  run_advances_to budget Faulted m honest = rw (run_stopped code budget (faulted m) refl) (stays refl)
-  run_advances_to zero Going m honest = rw (run_none code (going m)) (goes_on none (eqb-false (label_of m) (length code) (sym honest)))
+  run_advances_to budget Halted m honest = rw (run_stopped code budget (halted_at m) refl) (stays refl)
+  run_advances_to budget Faulted m honest = rw (run_stopped code budget (faulted_at m) refl) (stays refl)
+  run_advances_to zero Going m honest = rw (run_none code (going_at m)) (goes_on none (eqb-false (label_of m) (length code) (sym honest)))
   run_advances_to (suc budget) Going m honest = by (step code m) refl (run_advances_to budget)
     where
       by : (o : Option Machine) → step code m ≡ o → ((s : Status) (n : Machine) → RunIsByRules budget s n) →
-          AdvancesTo code (suc budget) (going m) (run code (suc budget) (going m)).0 (run code (suc budget) (going m)).1
+          AdvancesTo code (suc budget) (going_at m) (run code (suc budget) (going_at m)).0 (run code (suc budget) (going_at m)).1
       by None stuck rest =
-          rw (made_none code budget (going m) (faulted m) (ap (step_or_fault code m) stuck))
+          rw (made_none code budget (going_at m) (faulted_at m) (ap (step_or_fault code m) stuck))
           (faults none (omega arith) (eqb-false (label_of m) (length code) (sym honest)) (λ o rule. none-some o (sym stuck ∙ rule_steps code rule)))
       by (Some n) made rest =
           let next = arrived code n in
-          rw (made_one code budget (going m) next (ap (step_or_fault code m) made))
+          rw (made_one code budget (going_at m) next (ap (step_or_fault code m) made))
           (step_before (steps_by_rule code m n made) (suc budget) (1 + (run code budget next).0) (omega arith) (omega arith) refl
           (rest next.status n (arrived_true code n).halted_at_the_exit))

@@ -132,31 +132,39 @@ module _ (code : List Instruction) where
   run_over total k left r over so_far = ends_there total k left r r (ap (λ n. run code n r) over ∙ run_none r) so_far
 
   -- a fault or an exit: what no step leaves
-  stopped : (status : Status) (m : Machine) (after : RunState) → one_step code status m ≡ (false, after) → (is_going after.status ≡ false) × (after.machine ≡ m) × (TrueStatus code (record { status = status; machine = m }) → TrueStatus code after)
-  stopped Halted m after e = let same = ap (λ p. p.1) e in (ap (λ r. is_going r.status) (sym same), ap (λ r. r.machine) (sym same), λ t. subst (TrueStatus code) same t)
-  stopped Faulted m after e = let same = ap (λ p. p.1) e in (ap (λ r. is_going r.status) (sym same), ap (λ r. r.machine) (sym same), λ t. subst (TrueStatus code) same t)
+  abbrev StoppedAt : RunState → RunState → Type 0
+  StoppedAt before after =
+      (is_going after.status ≡ false) × (after.machine ≡ before.machine) × (TrueStatus code before → TrueStatus code after)
+
+  stays_stopped : (r after : RunState) → is_going r.status ≡ false → r ≡ after → StoppedAt r after
+  stays_stopped r after over same = subst (StoppedAt r) same (over, refl, λ t. t)
+
+  stopped : (status : Status) (m : Machine) (after : RunState) → one_step code status m ≡ (false, after) → StoppedAt (of status m) after
+  stopped Halted m after e = stays_stopped (of Halted m) after refl (ap (λ p. p.1) e)
+  stopped Faulted m after e = stays_stopped (of Faulted m) after refl (ap (λ p. p.1) e)
   stopped Going m after e = by_step (step code m) refl e
     where
-      by_step : (o : Option Machine) → step code m ≡ o → step_or_fault code m o ≡ (false, after) → (is_going after.status ≡ false) × (after.machine ≡ m) × (TrueStatus code (record { status = Going; machine = m }) → TrueStatus code after)
+      by_step : (o : Option Machine) → step code m ≡ o → step_or_fault code m o ≡ (false, after) → StoppedAt (of Going m) after
       by_step None stuck e =
-          let same = ap (λ p. p.1) e in (
-            ap (λ r. is_going r.status) (sym same),
-            ap (λ r. r.machine) (sym same),
-            λ t. subst (TrueStatus code) same (record {
+          subst (StoppedAt (of Going m)) (ap (λ p. p.1) e) (
+            refl,
+            refl,
+            λ t. record {
               halted_at_the_exit = t.halted_at_the_exit;
               faulted_without_a_rule = λ _ n rule. absurd (none-some n (sym stuck ∙ rule_steps code rule));
-            }),
+            },
           )
       by_step (Some n) made e = absurd (true≢false (ap (λ p. p.0) e))
 
   pub arrived_true : (n : Machine) → TrueStatus code (arrived code n)
   arrived_true n = by (eqb (label_of n) (length code)) refl
     where
-      by : (b : Bool) → eqb (label_of n) (length code) ≡ b → TrueStatus code (record { status = cond (eqb (label_of n) (length code)) Halted Going; machine = n })
+      by : (b : Bool) → eqb (label_of n) (length code) ≡ b → TrueStatus code (of (cond (eqb (label_of n) (length code)) Halted Going) n)
       by true e = rw e (record { halted_at_the_exit = sym e; faulted_without_a_rule = λ f. absurd (true≢false (ap is_halted f)) })
       by false e = rw e (record { halted_at_the_exit = sym e; faulted_without_a_rule = λ f. absurd (true≢false (ap is_going f)) })
 
-  went_on : (status : Status) (m : Machine) (after : RunState) → one_step code status m ≡ (true, after) → (code ⊢ m ⟶ after.machine) × TrueStatus code after
+  went_on : (status : Status) (m : Machine) (after : RunState) → one_step code status m ≡ (true, after)
+      → (code ⊢ m ⟶ after.machine) × TrueStatus code after
   went_on Halted m after e = absurd (false≢true (ap (λ p. p.0) e))
   went_on Faulted m after e = absurd (false≢true (ap (λ p. p.0) e))
   went_on Going m after e = by_step (step code m) refl e
@@ -169,10 +177,17 @@ module _ (code : List Instruction) where
 
   -- whole runs
   pub run_advances : (budget : ℕ) (r : RunState) → Advanced code budget (run code budget r).0 r (run code budget r).1
-  run_advances zero r = rw (run_none r) (record { machine_steps = none; within_budget = omega arith; short_only_if_stopped = λ h. absurd (omega arith); status_stays_true = λ t. t })
+  run_advances zero r = rw (run_none r) (record {
+    machine_steps = none;
+    within_budget = omega arith;
+    short_only_if_stopped = λ h. absurd (omega arith);
+    status_stays_true = λ t. t;
+  })
   run_advances (suc budget) r = by (one_step code r.status r.machine).0 (one_step code r.status r.machine).1 refl (run_advances budget)
     where
-      by : (b : Bool) (after : RunState) → one_step code r.status r.machine ≡ (b, after) → ((s : RunState) → Advanced code budget (run code budget s).0 s (run code budget s).1) → Advanced code (suc budget) (run code (suc budget) r).0 r (run code (suc budget) r).1
+      by : (b : Bool) (after : RunState) → one_step code r.status r.machine ≡ (b, after)
+          → ((s : RunState) → Advanced code budget (run code budget s).0 s (run code budget s).1)
+          → Advanced code (suc budget) (run code (suc budget) r).0 r (run code (suc budget) r).1
       by true after e rest =
           let unfolds : run code (suc budget) r ≡ counted 1 (run code budget after) = made_one budget r after e in
           let made = went_on r.status r.machine after e in
@@ -186,7 +201,7 @@ module _ (code : List Instruction) where
           })
       by false after e rest =
           let unfolds : run code (suc budget) r ≡ (0, after) = made_none budget r after e in
-          let still = stopped r.status r.machine after e in
+          let still : StoppedAt r after = stopped r.status r.machine after e in
           rw unfolds (record {
             machine_steps = subst (λ m. Steps code 0 r.machine m) (sym still.1) none;
             within_budget = omega arith;

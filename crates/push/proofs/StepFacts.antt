@@ -34,7 +34,9 @@ module _ (code : List Instruction) where
   by_rule : {m n : Machine} {o : Machine} → code ⊢ m ⟶ n → Some n ≡ Some o → code ⊢ m ⟶ o
   by_rule {m} r e = subst (λ k. code ⊢ m ⟶ k) (same_Some _ _ e) r
 
-  combined_by_rule : (f : ℤ → ℤ → Value) (l : ℕ) (s : List Value) (vs : List ℤ) (n : Machine) → ((t u : ℤ) (s : List Value) → code ⊢ at l (Int t ∷ Int u ∷ s) vs ⟶ at (l + 1) (f u t ∷ s) vs) → combined f (integers_on s) l s vs ≡ Some n → code ⊢ at l s vs ⟶ n
+  combined_by_rule : (f : ℤ → ℤ → Value) (l : ℕ) (s : List Value) (vs : List ℤ) (n : Machine) →
+      ((t u : ℤ) (s : List Value) → code ⊢ at l (Int t ∷ Int u ∷ s) vs ⟶ at (l + 1) (f u t ∷ s) vs) →
+      combined f (integers_on s) l s vs ≡ Some n → code ⊢ at l s vs ⟶ n
   combined_by_rule f l [] vs n rule e = absurd (none-some n e)
   combined_by_rule f l (Flag b ∷ s) vs n rule e = absurd (none-some n e)
   combined_by_rule f l (Int t ∷ []) vs n rule e = absurd (none-some n e)
@@ -42,7 +44,8 @@ module _ (code : List Instruction) where
   combined_by_rule f l (Int t ∷ Int u ∷ s) vs n rule e = by_rule (rule t u s) e
 
   -- what `step` makes is by a rule
-  performed : (i : Option Instruction) (l : ℕ) (s : List Value) (vs : List ℤ) (n : Machine) → fetch code l ≡ i → perform i l s vs ≡ Some n → code ⊢ at l s vs ⟶ n
+  performed : (i : Option Instruction) (l : ℕ) (s : List Value) (vs : List ℤ) (n : Machine) →
+      fetch code l ≡ i → perform i l s vs ≡ Some n → code ⊢ at l s vs ⟶ n
   performed None l s vs n i e = absurd (none-some n e)
   performed (Some (Load v)) l s vs n i e =
       let known = kept (ltb v 32) _ n e in
