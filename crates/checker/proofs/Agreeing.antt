@@ -12,7 +12,8 @@ use Rattle.push.specs.declared.value.Value.{Value}
 use Rattle.push.specs.declared.value.Value.TheVariants.{Int, Flag}
 use Rattle.push.specs.Code.{fetch}
 use Rattle.push.specs.Language.{successors}
-use Rattle.push.specs.Numbers.{sum, difference, same}
+use Rattle.std.specs.Ordering.{int_eq}
+use Rattle.push.specs.Numbers.{sum, difference}
 use Rattle.push.specs.Machine as rule
 use Rattle.push.specs.Machine.{at, ◌⊢◌⟶◌}
 use Rattle.job.specs.declared.claim.Place.{Place}
@@ -96,7 +97,7 @@ module _ (o : Order) (w : ℕ) where
       together at_l (leaving.sub {a = a} {b = b}) (sound.more ha (sound.more hb ls)) {vs = vs} {ws = ws} (same_int {x = x} {y = y} h (same_int {x = u} {y = v} {s = s} {t = t} k r)) opened =
           inl (record { next = l + 1; left = Int (difference u x) ∷ s; right = Int (difference v y) ∷ t; left_values = vs; right_values = ws; left_rule = rule.sub at_l; right_rule = rule.sub at_l; among = contains_first (l + 1) []; agree = same_int (λ low. ap₂ difference (k (low_second a b ha hb low)) (h (low_first a b ha hb low))) r; opened = opened })
       together at_l (leaving.eq {a = a} {b = b}) (sound.more ha (sound.more hb ls)) {vs = vs} {ws = ws} (same_int {x = x} {y = y} h (same_int {x = u} {y = v} {s = s} {t = t} k r)) opened =
-          inl (record { next = l + 1; left = Flag (same u x) ∷ s; right = Flag (same v y) ∷ t; left_values = vs; right_values = ws; left_rule = rule.eq at_l; right_rule = rule.eq at_l; among = contains_first (l + 1) []; agree = same_flag (λ low. ap₂ same (k (low_second a b ha hb low)) (h (low_first a b ha hb low))) r; opened = opened })
+          inl (record { next = l + 1; left = Flag (int_eq u x) ∷ s; right = Flag (int_eq v y) ∷ t; left_values = vs; right_values = ws; left_rule = rule.eq at_l; right_rule = rule.eq at_l; among = contains_first (l + 1) []; agree = same_flag (λ low. ap₂ int_eq (k (low_second a b ha hb low)) (h (low_first a b ha hb low))) r; opened = opened })
       together at_l (leaving.less {a = a} {b = b}) (sound.more ha (sound.more hb ls)) {vs = vs} {ws = ws} (same_int {x = x} {y = y} h (same_int {x = u} {y = v} {s = s} {t = t} k r)) opened =
           inl (record { next = l + 1; left = Flag (int_lt u x) ∷ s; right = Flag (int_lt v y) ∷ t; left_values = vs; right_values = ws; left_rule = rule.less at_l; right_rule = rule.less at_l; among = contains_first (l + 1) []; agree = same_flag (λ low. ap₂ int_lt (k (low_second a b ha hb low)) (h (low_first a b ha hb low))) r; opened = opened })
       together at_l (leaving.not {a = a}) (sound.more ha ls) {vs = vs} {ws = ws} (same_flag {b = b} {d = d} {s = s} {t = t} h r) opened =

@@ -13,7 +13,8 @@ use Rattle.push.specs.declared.value.Value.{Value}
 use Rattle.push.specs.declared.value.Value.TheVariants.{Int, Flag}
 use Rattle.push.specs.Code.{fetch}
 use Rattle.push.specs.Language.{successors}
-use Rattle.push.specs.Numbers.{sum, difference, same}
+use Rattle.std.specs.Ordering.{int_eq}
+use Rattle.push.specs.Numbers.{sum, difference}
 use Rattle.push.specs.Machine as rule
 use Rattle.push.specs.Machine.{Machine, at, ◌⊢◌⟶◌, step}
 use Rattle.push.specs.Run as steps
@@ -124,7 +125,7 @@ module _ (o : Order) (w : ℕ) where
       hidden_step at_l (leaving.sub {a = a} {b = b}) (sound.more ha (sound.more hb ls)) vs sized (fits_int {x = x} (fits_int {x = u} {s = t} f)) k =
           record { next = l + 1; stack = Int (difference u x) ∷ t; values = vs; by_rule = rule.sub at_l; among = contains_first (l + 1) []; fits = fits_int f; keeps = above (closed_join (o.join a b) (join_level o laws a b ha hb)) (keeps_pop (keeps_pop k)); unchanged = same_here vs sized }
       hidden_step at_l (leaving.eq {a = a} {b = b}) (sound.more ha (sound.more hb ls)) vs sized (fits_int {x = x} (fits_int {x = u} {s = t} f)) k =
-          record { next = l + 1; stack = Flag (same u x) ∷ t; values = vs; by_rule = rule.eq at_l; among = contains_first (l + 1) []; fits = fits_flag f; keeps = above (closed_join (o.join a b) (join_level o laws a b ha hb)) (keeps_pop (keeps_pop k)); unchanged = same_here vs sized }
+          record { next = l + 1; stack = Flag (int_eq u x) ∷ t; values = vs; by_rule = rule.eq at_l; among = contains_first (l + 1) []; fits = fits_flag f; keeps = above (closed_join (o.join a b) (join_level o laws a b ha hb)) (keeps_pop (keeps_pop k)); unchanged = same_here vs sized }
       hidden_step at_l (leaving.less {a = a} {b = b}) (sound.more ha (sound.more hb ls)) vs sized (fits_int {x = x} (fits_int {x = u} {s = t} f)) k =
           record { next = l + 1; stack = Flag (int_lt u x) ∷ t; values = vs; by_rule = rule.less at_l; among = contains_first (l + 1) []; fits = fits_flag f; keeps = above (closed_join (o.join a b) (join_level o laws a b ha hb)) (keeps_pop (keeps_pop k)); unchanged = same_here vs sized }
       hidden_step at_l (leaving.not {a = a}) (sound.more ha ls) vs sized (fits_flag {b = b} {s = t} f) k =

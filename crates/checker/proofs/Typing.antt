@@ -11,7 +11,8 @@ use Rattle.push.specs.declared.value.Value.{Value}
 use Rattle.push.specs.declared.value.Value.TheVariants.{Int, Flag}
 use Rattle.push.specs.Code.{fetch}
 use Rattle.push.specs.Language.{successors}
-use Rattle.push.specs.Numbers.{sum, difference, same}
+use Rattle.std.specs.Ordering.{int_eq}
+use Rattle.push.specs.Numbers.{sum, difference}
 use Rattle.push.specs.Machine as rule
 use Rattle.push.specs.Machine.{Machine, at, ◌⊢◌⟶◌, perform, step}
 use Rattle.push.specs.Run as steps
@@ -73,7 +74,7 @@ module _ (o : Order) (levels : List ℕ) (code : List Instruction) (p l : ℕ) w
   goes at_l (leaving.push {x = x} room) {s} vs f = record { next = l + 1; stack = Int x ∷ s; values = vs; by_rule = rule.push at_l (omega (arith, fits_length f)); among = contains_first (l + 1) []; fits = fits_int f }
   goes at_l leaving.add vs (fits_int {x = t} (fits_int {x = u} {s = s} f)) = record { next = l + 1; stack = Int (sum u t) ∷ s; values = vs; by_rule = rule.add at_l; among = contains_first (l + 1) []; fits = fits_int f }
   goes at_l leaving.sub vs (fits_int {x = t} (fits_int {x = u} {s = s} f)) = record { next = l + 1; stack = Int (difference u t) ∷ s; values = vs; by_rule = rule.sub at_l; among = contains_first (l + 1) []; fits = fits_int f }
-  goes at_l leaving.eq vs (fits_int {x = t} (fits_int {x = u} {s = s} f)) = record { next = l + 1; stack = Flag (same u t) ∷ s; values = vs; by_rule = rule.eq at_l; among = contains_first (l + 1) []; fits = fits_flag f }
+  goes at_l leaving.eq vs (fits_int {x = t} (fits_int {x = u} {s = s} f)) = record { next = l + 1; stack = Flag (int_eq u t) ∷ s; values = vs; by_rule = rule.eq at_l; among = contains_first (l + 1) []; fits = fits_flag f }
   goes at_l leaving.less vs (fits_int {x = t} (fits_int {x = u} {s = s} f)) = record { next = l + 1; stack = Flag (int_lt u t) ∷ s; values = vs; by_rule = rule.less at_l; among = contains_first (l + 1) []; fits = fits_flag f }
   goes at_l leaving.not vs (fits_flag {b = b} {s = s} f) = record { next = l + 1; stack = Flag (not b) ∷ s; values = vs; by_rule = rule.not at_l; among = contains_first (l + 1) []; fits = fits_flag f }
   goes at_l (leaving.goto {m = m}) {s} vs f = record { next = m; stack = s; values = vs; by_rule = rule.goto at_l; among = contains_first m []; fits = f }

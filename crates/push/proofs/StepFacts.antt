@@ -2,13 +2,14 @@
 use Rattle.std.proofs.Common.{◌≡◌, ℕ, ◌+◌, ◌<◌, Bool, true, false, cond, ltb, List, [], ◌∷◌, length, ℤ, Some, None, Option, int_lt, refl, ap, ◌∙◌, subst}
 use Rattle.std.proofs.lemmas.Bool.{lt-ltb, ltb-true, cond-true}
 use Rattle.std.proofs.lemmas.Option.{none-some, same_Some}
+use Rattle.std.specs.Ordering.{int_eq}
 use Rattle.push.specs.declared.instruction.Instruction.{Instruction}
 use Rattle.push.specs.declared.instruction.Instruction.TheVariants.{Load, Store, Push, Add, Sub, Eq, Less, Not, Goto, GotoF}
 use Rattle.push.specs.declared.value.Value.{Value}
 use Rattle.push.specs.declared.value.Value.TheVariants.{Int, Flag}
 use Rattle.push.specs.Code.{fetch}
 use Rattle.push.specs.Machine.{Machine, at, ◌⊢◌⟶◌, load, store, push, add, sub, eq, less, not, goto, gotof, integers_on, pushed, combined, perform, step, StepFollowsTheRules}
-use Rattle.push.specs.Numbers.{sum, difference, same}
+use Rattle.push.specs.Numbers.{sum, difference}
 
 module _ (code : List Instruction) where
   room : (x : Value) (l : ℕ) (s : List Value) (vs : List ℤ) → length s < 8 → pushed x l s vs ≡ Some (at (l + 1) (x ∷ s) vs)
@@ -57,7 +58,7 @@ module _ (code : List Instruction) where
   performed (Some (Push x)) l s vs n i e = let free = kept (ltb (length s) 8) _ n e in by_rule (push i (ltb-true (length s) 8 free.0)) free.1
   performed (Some Add) l s vs n i e = combined_by_rule (λ u t. Int (sum u t)) l s vs n (λ t u s. add i) e
   performed (Some Sub) l s vs n i e = combined_by_rule (λ u t. Int (difference u t)) l s vs n (λ t u s. sub i) e
-  performed (Some Eq) l s vs n i e = combined_by_rule (λ u t. Flag (same u t)) l s vs n (λ t u s. eq i) e
+  performed (Some Eq) l s vs n i e = combined_by_rule (λ u t. Flag (int_eq u t)) l s vs n (λ t u s. eq i) e
   performed (Some Less) l s vs n i e = combined_by_rule (λ u t. Flag (int_lt u t)) l s vs n (λ t u s. less i) e
   performed (Some Not) l [] vs n i e = absurd (none-some n e)
   performed (Some Not) l (Int t ∷ s) vs n i e = absurd (none-some n e)

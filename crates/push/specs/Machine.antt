@@ -1,12 +1,13 @@
 -- The machine: its steps as a relation with a rule for each instruction, and as a function. Assumes nothing.
 use Rattle.std.specs.Prelude.{◌≡◌, ℕ, ◌+◌, ◌<◌, Bool, List, [], ◌∷◌, length, drop, ℤ, pos, Some, None, Option, nat_lt, slice_index_or, slice_set, int_lt, if◌then◌else◌, ◌↔◌}
 use Rattle.std.specs.Prelude as std
+use Rattle.std.specs.Ordering.{int_eq}
 use Rattle.push.specs.declared.instruction.Instruction.{Instruction}
 use Rattle.push.specs.declared.instruction.Instruction.TheVariants.{Load, Store, Push, Add, Sub, Eq, Less, Not, Goto, GotoF}
 use Rattle.push.specs.declared.value.Value.{Value}
 use Rattle.push.specs.declared.value.Value.TheVariants.{Int, Flag}
 use Rattle.push.specs.Code.{fetch}
-use Rattle.push.specs.Numbers.{sum, difference, same}
+use Rattle.push.specs.Numbers.{sum, difference}
 
 -- A label, a stack with its top first, and the values of the variables. A run has 32 of these and at most 8 places.
 pub data Machine : Type 0 where
@@ -32,7 +33,7 @@ pub data ◌⊢◌⟶◌ (code : List Instruction) : Machine → Machine → Typ
       code ⊢ at l (Int t ∷ Int u ∷ s) vs ⟶ at (l + 1) (Int (difference u t) ∷ s) vs
   eq : {l : ℕ} {t u : ℤ} {s : List Value} {vs : List ℤ} →
       fetch code l ≡ Some Eq →
-      code ⊢ at l (Int t ∷ Int u ∷ s) vs ⟶ at (l + 1) (Flag (same u t) ∷ s) vs
+      code ⊢ at l (Int t ∷ Int u ∷ s) vs ⟶ at (l + 1) (Flag (int_eq u t) ∷ s) vs
   less : {l : ℕ} {t u : ℤ} {s : List Value} {vs : List ℤ} →
       fetch code l ≡ Some Less →
       code ⊢ at l (Int t ∷ Int u ∷ s) vs ⟶ at (l + 1) (Flag (int_lt u t) ∷ s) vs
@@ -93,7 +94,7 @@ perform (Some (Store v)) l s vs = stored v (integer_on s) l s vs
 perform (Some (Push x)) l s vs = pushed (Int x) l s vs
 perform (Some Add) l s vs = combined (λ u t. Int (sum u t)) (integers_on s) l s vs
 perform (Some Sub) l s vs = combined (λ u t. Int (difference u t)) (integers_on s) l s vs
-perform (Some Eq) l s vs = combined (λ u t. Flag (same u t)) (integers_on s) l s vs
+perform (Some Eq) l s vs = combined (λ u t. Flag (int_eq u t)) (integers_on s) l s vs
 perform (Some Less) l s vs = combined (λ u t. Flag (int_lt u t)) (integers_on s) l s vs
 perform (Some Not) l s vs = negated (flag_on s) l s vs
 perform (Some (Goto m)) l s vs = Some (at m s vs)

@@ -1,5 +1,5 @@
 -- Integers of 32 bits. Assumes nothing.
-use Rattle.std.specs.Prelude.{Bool, false, ℤ, pos, negsuc, ◌+ℤ◌, ◌-ℤ◌, ◌==◌, int_lt, if◌then◌else◌}
+use Rattle.std.specs.Prelude.{ℤ, pos, negsuc, ◌+ℤ◌, ◌-ℤ◌, int_lt, if◌then◌else◌}
 
 -- Above the range 4,294,967,296 is taken away, below it is added.
 abbrev pub brought_back : ℤ → ℤ
@@ -13,8 +13,3 @@ sum u t = brought_back (u +ℤ t)
 
 abbrev pub difference : ℤ → ℤ → ℤ
 difference u t = brought_back (u -ℤ t)
-
-abbrev pub same : ℤ → ℤ → Bool
-same (pos m) (pos n) = m == n
-same (negsuc m) (negsuc n) = m == n
-same _ _ = false
