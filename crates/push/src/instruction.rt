@@ -33,6 +33,17 @@ pub enum Instruction {
     },
 }
 
+/// The instruction goto 0: a program that is made holds it in the places that are not used yet, and no run meets it there.
+impl Default for Instruction {
+    ghost use Rattle.push.specs.declared.instruction.Instruction.TheVariants.{Goto};
+
+    ghost is_default = { λ i. i ≡ Goto 0 };
+
+    fn default() -> Self {
+        Instruction::Goto(0)
+    }
+}
+
 impl Instruction {
     /// The kinds that it pops, top first.
     pub fn pops(self) -> &'static [Kind]

@@ -1,14 +1,13 @@
 use crate::INSTRUCTIONS;
 use crate::instruction::Instruction;
+use arrayvec::ArrayVec;
 use std::marker::Model;
 
 /// A list of at most 128 instructions; an instruction's place in it is its label. It owns them, so that a run needs
 /// nothing else.
-// A table and a length: a device has no heap for a `Vec`.
 #[derive(Drop)]
 pub struct Program {
-    table: [Instruction; INSTRUCTIONS],
-    len: usize,
+    instructions: ArrayVec<Instruction, INSTRUCTIONS>,
 }
 
 /// Why an instruction was not added: there are 128 already.
@@ -17,14 +16,14 @@ pub struct ProgramFull;
 
 // In a clause a program is the list of its instructions.
 impl Model for Program {
-    ghost use Rattle.std.specs.Prelude.{◌≡◌, ◌≤◌, List, length, take};
+    ghost use Rattle.std.specs.Prelude.{◌≤◌, List, length};
     ghost use Rattle.push.specs.declared.instruction.Instruction.{Instruction};
 
     ghost Value = { List Instruction };
 
-    ghost view = { λ p. take p.len p.table };
+    ghost view = { λ p. p.instructions.items };
 
-    ghost invariant = { λ p. (length p.table ≡ 128) × (p.len ≤ 128) };
+    ghost invariant = { λ p. length p.instructions.items ≤ 128 };
 }
 
 impl Program {
@@ -37,8 +36,7 @@ impl Program {
         ensures has_no_instructions { result ≡ [] }
     {
         Program {
-            table: [Instruction::Goto(0); INSTRUCTIONS],
-            len: 0,
+            instructions: ArrayVec::new(),
         }
     }
 
@@ -47,7 +45,7 @@ impl Program {
         ensures counts_the_instructions { result ≡ length self.now }
         ensures at_most_128 { result ≤ 128 }
     {
-        self.len
+        self.instructions.len()
     }
 
     /// Adds an instruction at the end. Its variable and its labels may be any; whether a job may hold it is the checker's
@@ -57,12 +55,10 @@ impl Program {
         ensures added_at_the_end { OnOk result (self.new ≡ self.old ++ instruction ∷ []) }
         ensures refused_changes_nothing { OnErr result (self.new ≡ self.old) }
     {
-        if self.len >= INSTRUCTIONS {
+        if self.instructions.is_full() {
             return Err(ProgramFull);
         }
-        // Not through `get_mut`: of what is written through it a proof knows the length alone.
-        self.table[self.len] = instruction;
-        self.len += 1;
+        self.instructions.push(instruction);
         Ok(())
     }
 
@@ -79,6 +75,6 @@ impl Program {
         ensures is_the_instruction_at_the_label { option_copied result ≡ fetch_of self.now label }
         ensures only_below_128 { OnSome result (label < 128) }
     {
-        self.table[..self.len].get(label)
+        self.instructions.as_slice().get(label)
     }
 }
