@@ -1,5 +1,5 @@
 -- The laws of an order made by `among_levels`, from what its answers do among levels. Assumes nothing.
-use Rattle.std.specs.Prelude.{◌≡◌, ℕ, ◌<◌, ◌≤◌, Bool, true, false, cond, ◌&&◌, ◌⊎◌, nat_lt}
+use Rattle.std.specs.Prelude.{◌≡◌, ℕ, ◌<◌, ◌≤◌, Bool, true, false, ◌&&◌, ◌⊎◌, nat_lt, if◌then◌else◌}
 use Rattle.std.proofs.Common.{sym, subst, ⊎_elim, arith}
 use Rattle.std.proofs.lemmas.Bool.{and_parts, and_from, and_left, and_right, ltb-true, lt-ltb, le-ltb, cond-true, cond-false}
 use Rattle.lattice.specs.Order.{Laws}
@@ -46,25 +46,25 @@ module _ (s : ℕ) (at_most : ℕ → ℕ → Bool) (join meet : ℕ → ℕ →
   R a b = levels s a b && at_most a b
 
   -- the value of an answer at two levels
-  at_levels : (f : ℕ → ℕ → ℕ) (a b : ℕ) → a < s → b < s → f a b ≡ cond (levels s a b) (f a b) 0
+  at_levels : (f : ℕ → ℕ → ℕ) (a b : ℕ) → a < s → b < s → f a b ≡ (if levels s a b then f a b else 0)
   at_levels f a b ha hb = sym (cond-true (levels s a b) (f a b) 0 (both s at_most a b ha hb))
 
-  at_none : (f : ℕ → ℕ → ℕ) (a b : ℕ) → (s ≤ a) ⊎ (s ≤ b) → cond (levels s a b) (f a b) 0 ≡ 0
+  at_none : (f : ℕ → ℕ → ℕ) (a b : ℕ) → (s ≤ a) ⊎ (s ≤ b) → (if levels s a b then f a b else 0) ≡ 0
   at_none f a b h = cond-false (levels s a b) (f a b) 0 (neither s at_most a b h)
 
   -- a code and the value of an answer at two levels, either way round
   under : (f : ℕ → ℕ → ℕ) (c a b : ℕ) → c < s → a < s → b < s → f a b < s →
-      at_most c (f a b) ≡ true → R c (cond (levels s a b) (f a b) 0) ≡ true
+      at_most c (f a b) ≡ true → R c (if levels s a b then f a b else 0) ≡ true
   under f c a b hc ha hb level h = subst (λ x. R c x ≡ true) (at_levels f a b ha hb) (put s at_most c (f a b) hc level h)
 
   over : (f : ℕ → ℕ → ℕ) (c a b : ℕ) → c < s → a < s → b < s → f a b < s →
-      at_most (f a b) c ≡ true → R (cond (levels s a b) (f a b) 0) c ≡ true
+      at_most (f a b) c ≡ true → R (if levels s a b then f a b else 0) c ≡ true
   over f c a b hc ha hb level h = subst (λ x. R x c ≡ true) (at_levels f a b ha hb) (put s at_most (f a b) c level hc h)
 
-  some_level : (x : ℕ) → 0 < s → x ≡ cond (nat_lt 0 s) x 0
+  some_level : (x : ℕ) → 0 < s → x ≡ (if nat_lt 0 s then x else 0)
   some_level x h = sym (cond-true (nat_lt 0 s) x 0 (lt-ltb 0 s h))
 
-  no_level : (x : ℕ) → s ≡ 0 → cond (nat_lt 0 s) x 0 ≡ 0
+  no_level : (x : ℕ) → s ≡ 0 → (if nat_lt 0 s then x else 0) ≡ 0
   no_level x h = cond-false (nat_lt 0 s) x 0 (le-ltb 0 s (omega arith))
 
   pub laws_among_levels : Sound s at_most join meet lowest highest → Laws (among_levels s at_most join meet lowest highest)

@@ -1,5 +1,5 @@
 -- Sets of owners under inclusion keep the laws, and at_most is inclusion owner by owner. Assumes nothing.
-use Rattle.std.specs.Prelude.{◌≡◌, ℕ, zero, suc, ◌+◌, ◌-◌, ◌*◌, ◌/◌, ◌%◌, ◌^◌, ◌<◌, ◌≤◌, min, max, true, ◌==◌, nat_eq, nat_le, refl}
+use Rattle.std.specs.Prelude.{◌≡◌, ℕ, zero, suc, ◌+◌, ◌-◌, ◌*◌, ◌/◌, ◌%◌, ◌^◌, ◌<◌, ◌≤◌, min, max, true, ◌==◌, nat_le, refl}
 use Rattle.std.proofs.Common.{sym, ◌∙◌, ap, div-one, mod-lt, mod-eq_of_lt, arith, pow_mono}
 use Rattle.std.specs.Int.Bits.{bit_and, bit_or, and_step, or_step, and_lt, and_self, and_zero_l}
 use Rattle.std.proofs.lemmas.Nat.{shr-shr, and_shr, or_shr, or_lt, and_mask}
@@ -99,7 +99,7 @@ passes a b h = eq-eqb (bit_and a b) a (and_within a b h)
 
 pub owners_laws : (count : ℕ) → Laws (owners count)
 owners_laws count =
-    laws_among_levels (owners_span count) (λ a b. nat_eq (bit_and a b) a) bit_or bit_and 0 (owners_span count - 1)
+    laws_among_levels (owners_span count) (λ a b. bit_and a b == a) bit_or bit_and 0 (owners_span count - 1)
     record {
       bound = span_bound count;
       reflexive = λ a h. eq-eqb (bit_and a a) a (and_self a);
@@ -129,7 +129,7 @@ pub owners_go_by_inclusion : OwnersGoByInclusion
 unfolding bit
 owners_go_by_inclusion count a b = (
   λ h.
-      let p = parts (owners_span count) (λ a b. nat_eq (bit_and a b) a) a b h in
+      let p = parts (owners_span count) (λ a b. bit_and a b == a) a b h in
       (p.0, p.1, λ i own. omega (arith, test a b p.2 i, bit_two b i)),
-  λ h. put (owners_span count) (λ a b. nat_eq (bit_and a b) a) a b h.0 h.1 (passes a b (λ i. one_implies_one (bit a i) (bit b i) (bit_two a i) (h.2 i))),
+  λ h. put (owners_span count) (λ a b. bit_and a b == a) a b h.0 h.1 (passes a b (λ i. one_implies_one (bit a i) (bit b i) (bit_two a i) (h.2 i))),
 )
