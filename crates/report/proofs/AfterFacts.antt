@@ -14,7 +14,7 @@ use Rattle.job.proofs.AllBelow.{all_of_range}
 use Rattle.checker.specs.Verdict.{verdict, decoded_code}
 use Rattle.controller.specs.State.{SetupState, ReadyState, mount_outcome, mounted as mounted_by}
 use Rattle.controller.specs.Lists as lists
-use Rattle.controller.specs.Lists.{Call, in_setup, is_ready, graded, mounted, was_set, seal, mount, transcript_from, transcript}
+use Rattle.controller.specs.Lists.{Call, in_setup, is_ready, graded, mounted, was_set, seal, mount, the_order, transcript_from, transcript}
 use Rattle.report.specs.Input.{level, value, each, job, all_levels, sealed_controller, with_values}
 use Rattle.report.specs.Report.{bad_input, answers_text}
 
@@ -39,11 +39,11 @@ module _ (o : Order) (bytes : List ℕ) (rest : List Call) where
 
   -- the text of calls that are made in setup, with these levels
   abbrev in_setup_text : ℕ → List ℕ → List Call → List ℕ
-  in_setup_text place levels calls = answers_text (transcript_from o place (in_setup (record { levels = levels })) calls)
+  in_setup_text position levels calls = answers_text (transcript_from position (in_setup (record { lattice = o; levels = levels })) calls)
 
   -- the text of a mount's answer and of calls that are made after it
-  abbrev mounted_text : ℕ × ℕ → ℕ → ReadyState → List Call → List ℕ
-  mounted_text answer place s calls = answers_text (mounted answer ∷ transcript_from o place (is_ready s) calls)
+  abbrev mounted_text : ℕ × ℕ → ℕ → ReadyState Order → List Call → List ℕ
+  mounted_text answer position s calls = answers_text (mounted answer ∷ transcript_from position (is_ready s) calls)
 
   -- a grade leaves no line, and one that is refused makes the input bad
   text_graded : (n i : ℕ) (levels : List ℕ) → i + n ≡ 32 → length levels ≡ 32 → ((k : ℕ) → k < i → get_or levels k 0 ≡ level bytes k) →
@@ -51,14 +51,15 @@ module _ (o : Order) (bytes : List ℕ) (rest : List Call) where
       ≡ cond (list_all is_level (range_with_len i n)) (in_setup_text 32 (each (level bytes)) rest) bad_input
   text_graded zero i levels all long done =
       let at : i ≡ 32 = omega arith in
-      ap₂ (λ place held. in_setup_text place held rest) at (each_at (level bytes) levels 0 long (λ k h. done k (omega arith)))
+      ap₂ (λ position held. in_setup_text position held rest) at (each_at (level bytes) levels 0 long (λ k h. done k (omega arith)))
   text_graded (suc n) i levels all long done =
       let l = level bytes i in
       let next_levels = set levels i l in
-      let fitting : Bool → ℕ × SetupState = λ fits. cond fits (0, record { levels = next_levels }) (2, record { levels = levels }) in
-      let out : Bool → Bool → ℕ × SetupState = λ known fits. cond known (fitting fits) (1, record { levels = levels }) in
-      let text_of : ℕ × SetupState → List ℕ =
-      λ graded_by. answers_text (graded graded_by.0 ∷ transcript_from o (i + 1) (in_setup graded_by.1) (grades (i + 1) n)) in
+      let s : SetupState Order = record { lattice = o; levels = levels } in
+      let fitting : Bool → ℕ × SetupState Order = λ fits. cond fits (0, record s { levels = next_levels }) (2, s) in
+      let out : Bool → Bool → ℕ × SetupState Order = λ known fits. cond known (fitting fits) (1, s) in
+      let text_of : ℕ × SetupState Order → List ℕ =
+      λ graded_by. answers_text (graded graded_by.0 ∷ transcript_from (i + 1) (in_setup graded_by.1) (grades (i + 1) n)) in
       let next_done = fill_by_more (level bytes) levels i 0 (omega arith) done in
       let next = text_graded n (i + 1) next_levels (omega arith) (length-set levels i l ∙ long) next_done in
       let wanted : Bool → List ℕ =
@@ -67,29 +68,34 @@ module _ (o : Order) (bytes : List ℕ) (rest : List Call) where
       ∙ elim (is_level i) as (λ fits. text_of (out true fits) ≡ wanted fits) [ true ↦ next | false ↦ refl ]
 
   -- a set is never refused, and leaves no line
-  text_set : (n i place : ℕ) (answer : ℕ × ℕ) (levels : List ℕ) (values : List ℤ) (program : List Instruction) → i + n ≡ 32 →
-      place + n ≡ 66 → length values ≡ 32 → ((k : ℕ) → k < i → get_or values k (pos 0) ≡ value bytes k) →
-      mounted_text answer place (record { levels = levels; values = values; program = program }) (sets i n)
-      ≡ mounted_text answer 66 (record { levels = levels; values = each (value bytes); program = program }) rest
-  text_set zero i place answer levels values program all end long done =
-      let at : place ≡ 66 = omega arith in
-      ap₂ (λ p held. mounted_text answer p (record { levels = levels; values = held; program = program }) rest) at
+  text_set : (n i position : ℕ) (answer : ℕ × ℕ) (l : Order) (levels : List ℕ) (values : List ℤ) (program : List Instruction) → i + n ≡ 32 →
+      position + n ≡ 66 → length values ≡ 32 → ((k : ℕ) → k < i → get_or values k (pos 0) ≡ value bytes k) →
+      mounted_text answer position (record { lattice = l; levels = levels; values = values; program = program }) (sets i n)
+      ≡ mounted_text answer 66 (record { lattice = l; levels = levels; values = each (value bytes); program = program }) rest
+  text_set zero i position answer l levels values program all end long done =
+      let at : position ≡ 66 = omega arith in
+      ap₂ (λ p held. mounted_text answer p (record { lattice = l; levels = levels; values = held; program = program }) rest) at
       (each_at (value bytes) values (pos 0) long (λ k h. done k (omega arith)))
-  text_set (suc n) i place answer levels values program all end long done =
+  text_set (suc n) i position answer l levels values program all end long done =
       let x = value bytes i in
-      let holding : List ℤ → ReadyState = λ held. record { levels = levels; values = held; program = program } in
-      let out : Bool → ℕ × ReadyState = λ known. cond known (0, holding (set values i x)) (1, holding values) in
-      let text_of : ℕ × ReadyState → List ℕ =
-      λ s. answers_text (mounted answer ∷ was_set s.0 ∷ transcript_from o (place + 1) (is_ready s.1) (sets (i + 1) n)) in
+      let holding : List ℤ → ReadyState Order = λ held. record { lattice = l; levels = levels; values = held; program = program } in
+      let out : Bool → ℕ × ReadyState Order = λ known. cond known (0, holding (set values i x)) (1, holding values) in
+      let text_of : ℕ × ReadyState Order → List ℕ =
+      λ s. answers_text (mounted answer ∷ was_set s.0 ∷ transcript_from (position + 1) (is_ready s.1) (sets (i + 1) n)) in
       let next_done = fill_by_more (value bytes) values i (pos 0) (omega arith) done in
       let next_long = length-set values i x ∙ long in
       ap (λ known. text_of (out known)) (lt-ltb i 32 (omega arith))
-      ∙ text_set n (i + 1) (place + 1) answer levels (set values i x) program (omega arith) (omega arith) next_long next_done
+      ∙ text_set n (i + 1) (position + 1) answer l levels (set values i x) program (omega arith) (omega arith) next_long next_done
 
--- a mount leaves the values
-values_stay : (s : ReadyState) (v : ℕ × ℕ) (program : List Instruction) → (mounted_by s v program).1.values ≡ s.values
+-- a mount leaves the lattice and the values
+pub lattice_stays : (s : ReadyState Order) (v : ℕ × ℕ) (program : List Instruction) → (mounted_by s v program).1.lattice ≡ s.lattice
+lattice_stays s v program =
+    let out : Bool → (ℕ × ℕ) × ReadyState Order = λ t. cond t (v, record s { program = program }) (v, s) in
+    elim (eqb v.0 0) as (λ t. (out t).1.lattice ≡ s.lattice) [ true ↦ refl | false ↦ refl ]
+
+values_stay : (s : ReadyState Order) (v : ℕ × ℕ) (program : List Instruction) → (mounted_by s v program).1.values ≡ s.values
 values_stay s v program =
-    let out : Bool → (ℕ × ℕ) × ReadyState = λ t. cond t (v, record { levels = s.levels; values = s.values; program = program }) (v, s) in
+    let out : Bool → (ℕ × ℕ) × ReadyState Order = λ t. cond t (v, record s { program = program }) (v, s) in
     elim (eqb v.0 0) as (λ t. (out t).1.values ≡ s.values) [ true ↦ refl | false ↦ refl ]
 
 -- the calls for an input, with others after its values are set
@@ -100,11 +106,11 @@ calls_then bytes after =
 
 module _ (o : Order) (bytes : List ℕ) (after : List Call) where
   -- the mount of the job on the graded and sealed controller
-  abbrev mounting : (ℕ × ℕ) × ReadyState
-  mounting = mount_outcome o (sealed_controller bytes) (job bytes)
+  abbrev mounting : (ℕ × ℕ) × ReadyState Order
+  mounting = mount_outcome the_order (sealed_controller o bytes) (job bytes)
 
   abbrev text : List ℕ
-  text = answers_text (mounted mounting.0 ∷ transcript_from o 66 (is_ready (with_values bytes mounting.1)) after)
+  text = answers_text (mounted mounting.0 ∷ transcript_from 66 (is_ready (with_values bytes mounting.1)) after)
 
   abbrev after_grades : List Call → List Call
   after_grades sets = seal ∷ mount (job bytes) ∷ (sets ++ after)
@@ -116,7 +122,7 @@ module _ (o : Order) (bytes : List ℕ) (after : List Call) where
       let setting : ℕ → Call = λ variable. lists.set variable (value bytes variable) in
       let sets = after_grades (each setting) in
       let found = verdict o (each (level bytes)) (job bytes) in
-      let kept = values_stay (sealed_controller bytes) found (decoded_code (job bytes) (opening (job bytes))) in
+      let kept = values_stay (sealed_controller o bytes) found (decoded_code (job bytes) (opening (job bytes))) in
       let s = mounting.1 in
       let long : length s.values ≡ 32 = ap length kept ∙ length-replicate 32 (pos 0) in
       let graded = in_setup_text o bytes sets 32 (each (level bytes)) in
@@ -124,7 +130,7 @@ module _ (o : Order) (bytes : List ℕ) (after : List Call) where
       ∙ text_graded o bytes sets n 0 (replicate 32 o.highest) (omega (arith, e)) (length-replicate 32 o.highest) (λ k h. absurd (omega arith))
       ∙ ap₂ (λ fit shown. cond fit shown bad_input) (all_of_range all_graded n ∙ ap (all_below all_graded) e)
       (ap (λ sets. graded (after_grades sets)) (each_is setting n e)
-      ∙ text_set o bytes after n 0 34 mounting.0 s.levels s.values s.program (omega (arith, e)) (omega (arith, e)) long (λ k h. absurd (omega arith)))
+      ∙ text_set o bytes after n 0 34 mounting.0 s.lattice s.levels s.values s.program (omega (arith, e)) (omega (arith, e)) long (λ k h. absurd (omega arith)))
 
   pub text_of_calls : answers_text (transcript o (calls_then bytes after)) ≡ cond (all_levels o bytes) text bad_input
   text_of_calls = text_by 32 refl

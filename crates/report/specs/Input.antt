@@ -61,9 +61,8 @@ abbrev pub all_levels : Order → List ℕ → Bool
 all_levels o bytes = all_below (λ variable. nat_lt (level bytes variable) o.span) 32
 
 -- The graded and sealed controller, and one with every value set.
-abbrev pub sealed_controller : List ℕ → ReadyState
-sealed_controller bytes = sealed_state (record { levels = each (level bytes) })
+abbrev pub sealed_controller : Order → List ℕ → ReadyState Order
+sealed_controller o bytes = sealed_state (record { lattice = o; levels = each (level bytes) })
 
-abbrev pub with_values : List ℕ → ReadyState → ReadyState
-with_values bytes s =
-    record { levels = s.levels; values = each (value bytes); program = s.program }
+abbrev pub with_values : List ℕ → ReadyState Order → ReadyState Order
+with_values bytes s = record s { values = each (value bytes) }
