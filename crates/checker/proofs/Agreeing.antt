@@ -31,8 +31,10 @@ module _ (o : Order) (w : ℕ) where
   -- Two stacks of the claimed depth and kinds, equal at each place whose claimed level is open to w.
   pub data Agree : List Place → List Value → List Value → Type 0 where
     same_none : Agree [] [] []
-    same_int : {a : ℕ} {x y : ℤ} {ps : List Place} {s t : List Value} → (o.at_most a w ≡ true → x ≡ y) → Agree ps s t → Agree (IntegerAt a ∷ ps) (Int x ∷ s) (Int y ∷ t)
-    same_flag : {a : ℕ} {b d : Bool} {ps : List Place} {s t : List Value} → (o.at_most a w ≡ true → b ≡ d) → Agree ps s t → Agree (BooleanAt a ∷ ps) (Flag b ∷ s) (Flag d ∷ t)
+    same_int : {a : ℕ} {x y : ℤ} {ps : List Place} {s t : List Value} → (o.at_most a w ≡ true → x ≡ y) → Agree ps s t →
+        Agree (IntegerAt a ∷ ps) (Int x ∷ s) (Int y ∷ t)
+    same_flag : {a : ℕ} {b d : Bool} {ps : List Place} {s t : List Value} → (o.at_most a w ≡ true → b ≡ d) → Agree ps s t →
+        Agree (BooleanAt a ∷ ps) (Flag b ∷ s) (Flag d ∷ t)
 
   pub left_fits : {ps : List Place} {s t : List Value} → Agree ps s t → Fits ps s
   left_fits same_none = fits_none
@@ -46,7 +48,8 @@ module _ (o : Order) (w : ℕ) where
 
   -- A branch on a boolean that is closed to w.
   pub data Apart : Instruction → List Place → List Place → List Value → List Value → Type 0 where
-    apart : {m j g : ℕ} {b d : Bool} {ps : List Place} {s t : List Value} → (o.at_most g w ≡ true → ⊥) → Agree ps s t → Apart (GotoF m j) (BooleanAt g ∷ ps) ps (Flag b ∷ s) (Flag d ∷ t)
+    apart : {m j g : ℕ} {b d : Bool} {ps : List Place} {s t : List Value} → (o.at_most g w ≡ true → ⊥) → Agree ps s t →
+        Apart (GotoF m j) (BooleanAt g ∷ ps) ps (Flag b ∷ s) (Flag d ∷ t)
 
   module _ (laws : Laws o) where
     pub agree_under : {ps qs : List Place} {s t : List Value} → Under o ps qs → Agree ps s t → Agree qs s t
@@ -75,6 +78,23 @@ module _ (o : Order) (w : ℕ) where
         pub agree : Agree qs left right
         pub opened : SameWhenOpen o levels w left_values right_values
 
+      both : {i : Instruction} {qs : List Place} {s t : List Value} {vs ws : List ℤ} {next : ℕ} {left_values right_values : List ℤ} →
+          (left right : List Value) → code ⊢ at l s vs ⟶ at next left left_values → code ⊢ at l t ws ⟶ at next right right_values →
+          Contains (successors i l) next → Agree qs left right → SameWhenOpen o levels w left_values right_values → Both i qs s t vs ws
+      both {next = next} {left_values = left_values} {right_values = right_values} left right left_rule right_rule among agree opened =
+          record {
+            next = next;
+            left = left;
+            right = right;
+            left_values = left_values;
+            right_values = right_values;
+            left_rule = left_rule;
+            right_rule = right_rule;
+            among = among;
+            agree = agree;
+            opened = opened;
+          }
+
       -- an operand of what is open is open
       low_first : (a b : ℕ) → a < o.span → b < o.span → o.at_most (o.join (o.join a b) p) w ≡ true → o.at_most a w ≡ true
       low_first a b ha hb h = low_left a b ha hb (low_left (o.join a b) p (join_level o laws a b ha hb) hp h)
@@ -82,30 +102,49 @@ module _ (o : Order) (w : ℕ) where
       low_second : (a b : ℕ) → a < o.span → b < o.span → o.at_most (o.join (o.join a b) p) w ≡ true → o.at_most b w ≡ true
       low_second a b ha hb h = low_right a b ha hb (low_left (o.join a b) p (join_level o laws a b ha hb) hp h)
 
-      stored : (v a : ℕ) (x y : ℤ) (vs ws : List ℤ) → v < 32 → a < o.span → o.at_most (o.join a p) (get_or levels v 0) ≡ true → (o.at_most a w ≡ true → x ≡ y) → SameWhenOpen o levels w vs ws → SameWhenOpen o levels w (set vs v x) (set ws v y)
-      stored v a x y vs ws small ha up h same = written v x y vs ws small (λ low. h (low_left a p ha hp (laws.transitive (o.join a p) (get_or levels v 0) w up low))) same
+      stored : (v a : ℕ) (x y : ℤ) (vs ws : List ℤ) → v < 32 → a < o.span → o.at_most (o.join a p) (get_or levels v 0) ≡ true →
+          (o.at_most a w ≡ true → x ≡ y) → SameWhenOpen o levels w vs ws → SameWhenOpen o levels w (set vs v x) (set ws v y)
+      stored v a x y vs ws small ha up h same =
+          written v x y vs ws small (λ low. h (low_left a p ha hp (laws.transitive (o.join a p) (get_or levels v 0) w up low))) same
 
-      pub together : {i : Instruction} {ps qs : List Place} → fetch code l ≡ Some i → Leaves o levels p i ps qs → Levels o ps → {s t : List Value} {vs ws : List ℤ} → Agree ps s t → SameWhenOpen o levels w vs ws → Both i qs s t vs ws ⊎ Apart i ps qs s t
+      pub together : {i : Instruction} {ps qs : List Place} → fetch code l ≡ Some i → Leaves o levels p i ps qs → Levels o ps →
+          {s t : List Value} {vs ws : List ℤ} → Agree ps s t → SameWhenOpen o levels w vs ws → Both i qs s t vs ws ⊎ Apart i ps qs s t
       together at_l (leaving.load {v = v} {ps = ps} small room) ls {s} {t} {vs} {ws} r opened =
-          inl (record { next = l + 1; left = Int (get_or vs v (pos 0)) ∷ s; right = Int (get_or ws v (pos 0)) ∷ t; left_values = vs; right_values = ws; left_rule = rule.load at_l small (omega (arith, fits_length (left_fits r))); right_rule = rule.load at_l small (omega (arith, fits_length (right_fits r))); among = contains_first (l + 1) []; agree = same_int (λ low. opened.agree v small (low_left (get_or levels v 0) p (graded v small) hp low)) r; opened = opened })
+          inl (both (Int (get_or vs v (pos 0)) ∷ s) (Int (get_or ws v (pos 0)) ∷ t) (rule.load at_l small (omega (arith, fits_length (left_fits r))))
+          (rule.load at_l small (omega (arith, fits_length (right_fits r)))) (contains_first (l + 1) [])
+          (same_int (λ low. opened.agree v small (low_left (get_or levels v 0) p (graded v small) hp low)) r) opened)
       together at_l (leaving.store {v = v} {a = a} small up) (sound.more ha ls) {vs = vs} {ws = ws} (same_int {x = x} {y = y} {s = s} {t = t} h r) opened =
-          inl (record { next = l + 1; left = s; right = t; left_values = set vs v x; right_values = set ws v y; left_rule = rule.store at_l small; right_rule = rule.store at_l small; among = contains_first (l + 1) []; agree = r; opened = stored v a x y vs ws small ha up h opened })
+          inl (both s t (rule.store at_l small) (rule.store at_l small) (contains_first (l + 1) []) r (stored v a x y vs ws small ha up h opened))
       together at_l (leaving.push {x = x} room) ls {s} {t} {vs} {ws} r opened =
-          inl (record { next = l + 1; left = Int x ∷ s; right = Int x ∷ t; left_values = vs; right_values = ws; left_rule = rule.push at_l (omega (arith, fits_length (left_fits r))); right_rule = rule.push at_l (omega (arith, fits_length (right_fits r))); among = contains_first (l + 1) []; agree = same_int (λ _. refl) r; opened = opened })
-      together at_l (leaving.add {a = a} {b = b}) (sound.more ha (sound.more hb ls)) {vs = vs} {ws = ws} (same_int {x = x} {y = y} h (same_int {x = u} {y = v} {s = s} {t = t} k r)) opened =
-          inl (record { next = l + 1; left = Int (sum u x) ∷ s; right = Int (sum v y) ∷ t; left_values = vs; right_values = ws; left_rule = rule.add at_l; right_rule = rule.add at_l; among = contains_first (l + 1) []; agree = same_int (λ low. ap₂ sum (k (low_second a b ha hb low)) (h (low_first a b ha hb low))) r; opened = opened })
-      together at_l (leaving.sub {a = a} {b = b}) (sound.more ha (sound.more hb ls)) {vs = vs} {ws = ws} (same_int {x = x} {y = y} h (same_int {x = u} {y = v} {s = s} {t = t} k r)) opened =
-          inl (record { next = l + 1; left = Int (difference u x) ∷ s; right = Int (difference v y) ∷ t; left_values = vs; right_values = ws; left_rule = rule.sub at_l; right_rule = rule.sub at_l; among = contains_first (l + 1) []; agree = same_int (λ low. ap₂ difference (k (low_second a b ha hb low)) (h (low_first a b ha hb low))) r; opened = opened })
-      together at_l (leaving.eq {a = a} {b = b}) (sound.more ha (sound.more hb ls)) {vs = vs} {ws = ws} (same_int {x = x} {y = y} h (same_int {x = u} {y = v} {s = s} {t = t} k r)) opened =
-          inl (record { next = l + 1; left = Flag (int_eq u x) ∷ s; right = Flag (int_eq v y) ∷ t; left_values = vs; right_values = ws; left_rule = rule.eq at_l; right_rule = rule.eq at_l; among = contains_first (l + 1) []; agree = same_flag (λ low. ap₂ int_eq (k (low_second a b ha hb low)) (h (low_first a b ha hb low))) r; opened = opened })
-      together at_l (leaving.less {a = a} {b = b}) (sound.more ha (sound.more hb ls)) {vs = vs} {ws = ws} (same_int {x = x} {y = y} h (same_int {x = u} {y = v} {s = s} {t = t} k r)) opened =
-          inl (record { next = l + 1; left = Flag (int_lt u x) ∷ s; right = Flag (int_lt v y) ∷ t; left_values = vs; right_values = ws; left_rule = rule.less at_l; right_rule = rule.less at_l; among = contains_first (l + 1) []; agree = same_flag (λ low. ap₂ int_lt (k (low_second a b ha hb low)) (h (low_first a b ha hb low))) r; opened = opened })
+          inl (both (Int x ∷ s) (Int x ∷ t) (rule.push at_l (omega (arith, fits_length (left_fits r))))
+          (rule.push at_l (omega (arith, fits_length (right_fits r)))) (contains_first (l + 1) []) (same_int (λ _. refl) r) opened)
+      together at_l (leaving.add {a = a} {b = b}) (sound.more ha (sound.more hb ls)) {vs = vs} {ws = ws}
+          (same_int {x = x} {y = y} h (same_int {x = u} {y = v} {s = s} {t = t} k r)) opened =
+          inl (both (Int (sum u x) ∷ s) (Int (sum v y) ∷ t) (rule.add at_l) (rule.add at_l) (contains_first (l + 1) [])
+          (same_int (λ low. ap₂ sum (k (low_second a b ha hb low)) (h (low_first a b ha hb low))) r) opened)
+      together at_l (leaving.sub {a = a} {b = b}) (sound.more ha (sound.more hb ls)) {vs = vs} {ws = ws}
+          (same_int {x = x} {y = y} h (same_int {x = u} {y = v} {s = s} {t = t} k r)) opened =
+          inl (both (Int (difference u x) ∷ s) (Int (difference v y) ∷ t) (rule.sub at_l) (rule.sub at_l) (contains_first (l + 1) [])
+          (same_int (λ low. ap₂ difference (k (low_second a b ha hb low)) (h (low_first a b ha hb low))) r) opened)
+      together at_l (leaving.eq {a = a} {b = b}) (sound.more ha (sound.more hb ls)) {vs = vs} {ws = ws}
+          (same_int {x = x} {y = y} h (same_int {x = u} {y = v} {s = s} {t = t} k r)) opened =
+          inl (both (Flag (int_eq u x) ∷ s) (Flag (int_eq v y) ∷ t) (rule.eq at_l) (rule.eq at_l) (contains_first (l + 1) [])
+          (same_flag (λ low. ap₂ int_eq (k (low_second a b ha hb low)) (h (low_first a b ha hb low))) r) opened)
+      together at_l (leaving.less {a = a} {b = b}) (sound.more ha (sound.more hb ls)) {vs = vs} {ws = ws}
+          (same_int {x = x} {y = y} h (same_int {x = u} {y = v} {s = s} {t = t} k r)) opened =
+          inl (both (Flag (int_lt u x) ∷ s) (Flag (int_lt v y) ∷ t) (rule.less at_l) (rule.less at_l) (contains_first (l + 1) [])
+          (same_flag (λ low. ap₂ int_lt (k (low_second a b ha hb low)) (h (low_first a b ha hb low))) r) opened)
       together at_l (leaving.not {a = a}) (sound.more ha ls) {vs = vs} {ws = ws} (same_flag {b = b} {d = d} {s = s} {t = t} h r) opened =
-          inl (record { next = l + 1; left = Flag (not b) ∷ s; right = Flag (not d) ∷ t; left_values = vs; right_values = ws; left_rule = rule.not at_l; right_rule = rule.not at_l; among = contains_first (l + 1) []; agree = same_flag (λ low. ap not (h (low_left a p ha hp low))) r; opened = opened })
+          inl (both (Flag (not b) ∷ s) (Flag (not d) ∷ t) (rule.not at_l) (rule.not at_l) (contains_first (l + 1) [])
+          (same_flag (λ low. ap not (h (low_left a p ha hp low))) r) opened)
       together at_l (leaving.goto {m = m}) ls {s} {t} {vs} {ws} r opened =
-          inl (record { next = m; left = s; right = t; left_values = vs; right_values = ws; left_rule = rule.goto at_l; right_rule = rule.goto at_l; among = contains_first m []; agree = r; opened = opened })
-      together at_l (leaving.gotof {m = m} {j = j} {g = g} {ps = ps}) ls {vs = vs} {ws = ws} (same_flag {b = b} {d = d} {s = s} {t = t} h r) opened = by (o.at_most g w) refl
+          inl (both s t (rule.goto at_l) (rule.goto at_l) (contains_first m []) r opened)
+      together at_l (leaving.gotof {m = m} {j = j} {g = g} {ps = ps}) ls {vs = vs} {ws = ws} (same_flag {b = b} {d = d} {s = s} {t = t} h r) opened =
+          by (o.at_most g w) refl
         where
-          by : (q : Bool) → o.at_most g w ≡ q → Both (GotoF m j) ps (Flag b ∷ s) (Flag d ∷ t) vs ws ⊎ Apart (GotoF m j) (BooleanAt g ∷ ps) ps (Flag b ∷ s) (Flag d ∷ t)
-          by true low = inl (record { next = cond b (l + 1) m; left = s; right = t; left_values = vs; right_values = ws; left_rule = rule.gotof at_l; right_rule = subst (λ q. code ⊢ at l (Flag d ∷ t) ws ⟶ at (cond q (l + 1) m) t ws) (sym (h low)) (rule.gotof at_l); among = either l m b; agree = r; opened = opened })
+          by : (q : Bool) → o.at_most g w ≡ q →
+              Both (GotoF m j) ps (Flag b ∷ s) (Flag d ∷ t) vs ws ⊎ Apart (GotoF m j) (BooleanAt g ∷ ps) ps (Flag b ∷ s) (Flag d ∷ t)
+          by true low =
+              inl (both s t (rule.gotof at_l) (subst (λ q. code ⊢ at l (Flag d ∷ t) ws ⟶ at (cond q (l + 1) m) t ws) (sym (h low)) (rule.gotof at_l))
+              (either l m b) r opened)
           by false high = inr (apart (λ low. true≢false (sym low ∙ high)) r)

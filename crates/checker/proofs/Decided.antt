@@ -1,7 +1,8 @@
 -- Each rule's test decides the relation that the rule names. Assumes nothing.
-use Rattle.std.proofs.Common.{◌≡◌, ℕ, ◌+◌, ◌-◌, ◌≤◌, Bool, true, false, not, ◌||◌, eqb, leb, List, [], ◌∷◌, ◌++◌, map, length, get_or, Some, None, Decides, Option, sym, refl, ap, ◌∙◌, subst, ⊎_elim, arith, length-append}
+use Rattle.std.proofs.Common.{◌≡◌, ℕ, ◌+◌, ◌-◌, ◌≤◌, Bool, true, false, not, ◌||◌, eqb, leb, List, [], ◌∷◌, ◌++◌, map, length, get_or, Some, None, Option, sym, refl, ap, ◌∙◌, subst, ⊎_elim, arith, length-append}
 use Rattle.std.specs.List.{Contains}
 use Rattle.checker.proofs.ContainsFacts.{contains_first, contains_rest, contains_cases, contains_none}
+use Rattle.std.specs.Prelude.{◌↔◌, IsTrue}
 use Rattle.std.specs.List.{list_all}
 use Rattle.std.specs.Option.{option_to_list}
 use Rattle.std.proofs.lemmas.Bool.{and_parts, and_from, leb-true, le-leb, eq-eqb, ne_eqb, cases_Bool, cases_eq, cond-true, cond-false, false≢true, false_from_ne_true}
@@ -36,19 +37,31 @@ begins_with [] rest = refl
 begins_with (Integer ∷ ks) rest = begins_with ks rest
 begins_with (Boolean ∷ ks) rest = begins_with ks rest
 
-pub decides_fits : (c : Claimed) (i : Instruction) → Decides (fits_its_stack c i) (FitsItsStack c i)
+pub decides_fits : (c : Claimed) (i : Instruction) → IsTrue (fits_its_stack c i) ↔ FitsItsStack c i
 decides_fits c i =
     let kinds = map kind c.stack in (
       λ h.
           let p = and_parts (begins (pops i) kinds) (leb (length (option_to_list (pushes i)) + (length kinds - length (pops i))) 8) h in
           let r = begun (pops i) kinds p.0 in
-          record { rest = r.0; popped = r.1; room = omega (arith, leb-true (length (option_to_list (pushes i)) + (length kinds - length (pops i))) 8 p.1, ap length r.1, length-append (pops i) r.0) },
+          record {
+            rest = r.0;
+            popped = r.1;
+            room =
+                omega (
+                  arith,
+                  leb-true (length (option_to_list (pushes i)) + (length kinds - length (pops i))) 8 p.1,
+                  ap length r.1,
+                  length-append (pops i) r.0,
+                );
+          },
       λ k.
-          and_from (begins (pops i) kinds) (leb (length (option_to_list (pushes i)) + (length kinds - length (pops i))) 8) (ap (begins (pops i)) k.popped ∙ begins_with (pops i) k.rest)
-          (le-leb (length (option_to_list (pushes i)) + (length kinds - length (pops i))) 8 (omega (arith, k.room, ap length k.popped, length-append (pops i) k.rest))),
+          and_from (begins (pops i) kinds) (leb (length (option_to_list (pushes i)) + (length kinds - length (pops i))) 8)
+          (ap (begins (pops i)) k.popped ∙ begins_with (pops i) k.rest)
+          (le-leb (length (option_to_list (pushes i)) + (length kinds - length (pops i))) 8
+          (omega (arith, k.room, ap length k.popped, length-append (pops i) k.rest))),
     )
 
-pub decides_stores : (o : Order) (levels : List ℕ) (c : Claimed) (i : Instruction) → Decides (stores_upward o levels c i) (StoresUpward o levels c i)
+pub decides_stores : (o : Order) (levels : List ℕ) (c : Claimed) (i : Instruction) → IsTrue (stores_upward o levels c i) ↔ StoresUpward o levels c i
 decides_stores o levels c (Load w) = (λ _ v e. cc, λ _. refl)
 decides_stores o levels c (Store w) = (λ h v e. let same : w ≡ v = cc in ap (λ u. o.at_most (joined_one o c) (get_or levels u 0)) (sym same) ∙ h, λ k. k w refl)
 decides_stores o levels c (Push x) = (λ _ v e. cc, λ _. refl)
@@ -85,9 +98,12 @@ claim_taken o stack (Some c) h = (c, refl, under o stack c.stack h)
 module _ (o : Order) (job : ProgramWithClaims) (stack : List Place) where
   taken : (label : ℕ) → takes o job stack label ≡ true → Takes o job stack label
   taken label h =
-      ⊎_elim (λ (e : label ≡ exit job). at_exit e (emptied stack (sym (cond-true (eqb label (exit job)) (is_empty stack) (claim_takes o stack (job.claim label)) (eq-eqb label (exit job) e)) ∙ h)))
+      ⊎_elim (λ (e : label ≡ exit job). at_exit e
+      (emptied stack (sym (cond-true (eqb label (exit job)) (is_empty stack) (claim_takes o stack (job.claim label)) (eq-eqb label (exit job) e)) ∙ h)))
       (λ (ne : label ≡ exit job → ⊥).
-      let k = claim_taken o stack (job.claim label) (sym (cond-false (eqb label (exit job)) (is_empty stack) (claim_takes o stack (job.claim label)) (ne_eqb label (exit job) ne)) ∙ h) in
+      let k =
+      claim_taken o stack (job.claim label)
+      (sym (cond-false (eqb label (exit job)) (is_empty stack) (claim_takes o stack (job.claim label)) (ne_eqb label (exit job) ne)) ∙ h) in
       by_claim ne k.1 k.2)
       (cases_eq label (exit job))
 
@@ -95,7 +111,8 @@ module _ (o : Order) (job : ProgramWithClaims) (stack : List Place) where
   takes_it label (at_exit e none_left) =
       cond-true (eqb label (exit job)) (is_empty stack) (claim_takes o stack (job.claim label)) (eq-eqb label (exit job) e) ∙ ap is_empty none_left
   takes_it label (by_claim ne has u) =
-      cond-false (eqb label (exit job)) (is_empty stack) (claim_takes o stack (job.claim label)) (ne_eqb label (exit job) ne) ∙ ap (claim_takes o stack) has ∙ under_fits o u
+      cond-false (eqb label (exit job)) (is_empty stack) (claim_takes o stack (job.claim label)) (ne_eqb label (exit job) ne) ∙ ap (claim_takes o stack) has
+      ∙ under_fits o u
 
   all_taken : (labels : List ℕ) → list_all (takes o job stack) labels ≡ true → (next : ℕ) → Contains labels next → Takes o job stack next
   all_taken [] h next a = absurd (contains_none next a)
@@ -110,8 +127,10 @@ module _ (o : Order) (job : ProgramWithClaims) (stack : List Place) where
       and_from (takes o job stack x) (list_all (takes o job stack) labels) (takes_it x (k x (contains_first x labels)))
       (all_take_it labels (λ n a. k n (contains_rest x labels n a)))
 
-pub decides_successors : (o : Order) (levels : List ℕ) (job : ProgramWithClaims) (label : ℕ) (c : Claimed) (i : Instruction) → Decides (successors_take o levels job label c i) (SuccessorsTake o levels job label c i)
-decides_successors o levels job label c i = (all_taken o job (leaves o levels c i) (successors i label), all_take_it o job (leaves o levels c i) (successors i label))
+pub decides_successors : (o : Order) (levels : List ℕ) (job : ProgramWithClaims) (label : ℕ) (c : Claimed) (i : Instruction) →
+    IsTrue (successors_take o levels job label c i) ↔ SuccessorsTake o levels job label c i
+decides_successors o levels job label c i =
+    (all_taken o job (leaves o levels c i) (successors i label), all_take_it o job (leaves o levels c i) (successors i label))
 
 surrounded : (o : Order) (job : ProgramWithClaims) (g label : ℕ) → claim_at_least o g (job.claim label) ≡ true → Surrounded o job g label
 surrounded o job g label h = by (job.claim label) refl h
@@ -138,7 +157,8 @@ module _ (o : Order) (job : ProgramWithClaims) (few : exit job ≤ 128) (label :
   pub raised_all : marked_at_least o job (level_at c.stack 0) marks ≡ true → RegionRaised o job label c (GotoF m j)
   raised_all h m' j' inside e r within =
       let same : j ≡ j' = cc in
-      let marked : get_or marks inside false ≡ true = region_is_marked job.code j label few (omega arith) (subst (λ q. Region job.code q label inside) (sym same) r) in
+      let marked : get_or marks inside false ≡ true =
+      region_is_marked job.code j label few (omega arith) (subst (λ q. Region job.code q label inside) (sym same) r) in
       let clear = all_below_holds (is_surrounded_if_marked o job (level_at c.stack 0) marks) (exit job) h inside within in
       surrounded o job (level_at c.stack 0) inside (sym (ap (λ b. not b || claim_at_least o (level_at c.stack 0) (job.claim inside)) marked) ∙ clear)
 

@@ -28,7 +28,9 @@ was_read None i e = cc
 was_read (Some j) i e = cc
 
 -- which fault of the record a job is refused for
-pub of_record : {P : RecordFault → MountFault → Type 0} (r : Result Instruction RecordFault) (m : Result Instruction MountFault) (e : MountFault) (n : ℕ) → MatchResult r (λ i. m ≡ Ok i) (λ fault. IsErrAnd m (P fault)) → m ≡ Err e → ((fault : RecordFault) (g : MountFault) → P fault g → g ≡ Record fault n) → (fault : RecordFault) × (Err fault ≡ r) × (e ≡ Record fault n)
+pub of_record : {P : RecordFault → MountFault → Type 0} (r : Result Instruction RecordFault) (m : Result Instruction MountFault) (e : MountFault) (n : ℕ) →
+    MatchResult r (λ i. m ≡ Ok i) (λ fault. IsErrAnd m (P fault)) → m ≡ Err e → ((fault : RecordFault) (g : MountFault) → P fault g → g ≡ Record fault n) →
+    (fault : RecordFault) × (Err fault ≡ r) × (e ≡ Record fault n)
 of_record (Ok i) m e n h was by = cc
 of_record (Err fault) m e n h was by = let p = err_from_is_err_and m h in let at : p.0 ≡ Record fault n = by fault p.0 p.2 in (fault, refl, cc)
 

@@ -43,7 +43,9 @@ search_first rule (suc n) =
     inl
     (record {
       all = λ l h. ⊎_elim (λ (q : l ≡ n). ap rule q ∙ e) (λ (ne : l ≡ n → ⊥). k.all l (omega (arith, ne))) (cases_eq l n);
-      is = cond-true (eqb (first_below rule n).0 0) (cond (eqb (rule n) 0) (0, 0) (rule n, n)) (first_below rule n) zero_so_far ∙ cond-true (eqb (rule n) 0) (0, 0) (rule n, n) (eq-eqb (rule n) 0 e);
+      is =
+          cond-true (eqb (first_below rule n).0 0) (cond (eqb (rule n) 0) (0, 0) (rule n, n)) (first_below rule n) zero_so_far
+          ∙ cond-true (eqb (rule n) 0) (0, 0) (rule n, n) (eq-eqb (rule n) 0 e);
     }))
     (λ (ne : rule n ≡ 0 → ⊥).
     inr
@@ -52,7 +54,9 @@ search_first rule (suc n) =
       within = omega arith;
       before = k.all;
       some = ne;
-      is = cond-true (eqb (first_below rule n).0 0) (cond (eqb (rule n) 0) (0, 0) (rule n, n)) (first_below rule n) zero_so_far ∙ cond-false (eqb (rule n) 0) (0, 0) (rule n, n) (ne_eqb (rule n) 0 ne);
+      is =
+          cond-true (eqb (first_below rule n).0 0) (cond (eqb (rule n) 0) (0, 0) (rule n, n)) (first_below rule n) zero_so_far
+          ∙ cond-false (eqb (rule n) 0) (0, 0) (rule n, n) (ne_eqb (rule n) 0 ne);
     }))
     (cases_eq (rule n) 0))
     (λ (k : Found rule n (first_below rule n)).
@@ -69,7 +73,8 @@ search_first rule (suc n) =
 
 -- A rule of labels that have a claim and an instruction.
 module _ (rule : Claimed → Instruction → ℕ) where
-  where_zero : (oc : Option Claimed) (oi : Option Instruction) → where_claimed rule oc oi ≡ 0 → (c : Claimed) (i : Instruction) → oc ≡ Some c → oi ≡ Some i → rule c i ≡ 0
+  where_zero : (oc : Option Claimed) (oi : Option Instruction) → where_claimed rule oc oi ≡ 0 → (c : Claimed) (i : Instruction) → oc ≡ Some c → oi ≡ Some i →
+      rule c i ≡ 0
   where_zero None oi h c i e f = cc
   where_zero (Some d) None h c i e f = cc
   where_zero (Some d) (Some k) h c i e f =
@@ -77,7 +82,8 @@ module _ (rule : Claimed → Instruction → ℕ) where
       let q : k ≡ i = cc in
       sym (ap₂ rule p q) ∙ h
 
-  where_some : (oc : Option Claimed) (oi : Option Instruction) → where_claimed rule oc oi ≢ 0 → (c : Claimed) × (i : Instruction) × (oc ≡ Some c) × (oi ≡ Some i) × (where_claimed rule oc oi ≡ rule c i)
+  where_some : (oc : Option Claimed) (oi : Option Instruction) → where_claimed rule oc oi ≢ 0 →
+      (c : Claimed) × (i : Instruction) × (oc ≡ Some c) × (oi ≡ Some i) × (where_claimed rule oc oi ≡ rule c i)
   where_some None oi ne = absurd (ne refl)
   where_some (Some d) None ne = absurd (ne refl)
   where_some (Some d) (Some k) ne = (d, k, refl, refl, refl)
@@ -104,7 +110,8 @@ module _ (o : Order) (levels : List ℕ) (job : ProgramWithClaims) (label : ℕ)
       ∙ ap (λ b. cond (not x) 11 (cond (not y) 12 (cond (not b) 13 0))) r
 
   -- the label keeps the rules, or breaks the one whose number it has
-  pub label_judged : (LabelKept o levels job label c i × (rule_at o levels job label c i ≡ 0)) ⊎ (LabelBreaks o levels job label c i (rule_at o levels job label c i) × (rule_at o levels job label c i ≢ 0))
+  pub label_judged : (LabelKept o levels job label c i × (rule_at o levels job label c i ≡ 0)) ⊎
+      (LabelBreaks o levels job label c i (rule_at o levels job label c i) × (rule_at o levels job label c i ≢ 0))
   unfolding b1 b2 b3
   label_judged =
       let d1 = decides_fits c i in
@@ -131,7 +138,8 @@ module _ (o : Order) (levels : List ℕ) (job : ProgramWithClaims) (label : ℕ)
 -- An instruction that is no branch has no region to keep.
 abbrev BranchJudged : Order → ProgramWithClaims → ℕ → Claimed → Instruction → Type 0
 BranchJudged o job label c i =
-    (BranchKept o job label c i × (branch_at o job label c i ≡ 0)) ⊎ (BranchBreaks o job label c i (branch_at o job label c i) × (branch_at o job label c i ≢ 0))
+    (BranchKept o job label c i × (branch_at o job label c i ≡ 0)) ⊎
+    (BranchBreaks o job label c i (branch_at o job label c i) × (branch_at o job label c i ≢ 0))
 
 module _ (o : Order) (job : ProgramWithClaims) (label : ℕ) (c : Claimed) where
   no_branch : (i : Instruction) → ((m j : ℕ) → i ≡ GotoF m j → ⊥) → BranchKept o job label c i
@@ -154,14 +162,28 @@ module _ (o : Order) (job : ProgramWithClaims) (label : ℕ) (c : Claimed) where
       ⊎_elim
       (λ (p : in_exit ≡ true).
       let e : branch_at o job label c (GotoF t j) ≡ 14 = cond-true in_exit 14 (cond (not high) 15 0) p in
-      inr (subst (BranchBreaks o job label c (GotoF t j)) (sym e) (exit_inside (λ k. false≢true (sym (exit_unmarked o job few label c t j k) ∙ p))), λ z. no_ten 13 (sym e ∙ z)))
+      inr (
+        subst (BranchBreaks o job label c (GotoF t j)) (sym e)
+            (exit_inside (λ k. false≢true (sym (exit_unmarked o job few label c t j k) ∙ p))),
+        λ z. no_ten 13 (sym e ∙ z),
+      ))
       (λ (p : in_exit ≡ false).
       let off = avoids o job few label c t j p in
       ⊎_elim
-      (λ (q : high ≡ true). inl (record { avoids = off; raised = raised_all o job few label c t j q }, cond-false in_exit 14 (cond (not high) 15 0) p ∙ cond-false (not high) 15 0 (ap not q)))
+      (λ (q : high ≡ true). inl (
+        record {
+          avoids = off;
+          raised = raised_all o job few label c t j q;
+        },
+        cond-false in_exit 14 (cond (not high) 15 0) p ∙ cond-false (not high) 15 0 (ap not q),
+      ))
       (λ (q : high ≡ false).
       let e : branch_at o job label c (GotoF t j) ≡ 15 = cond-false in_exit 14 (cond (not high) 15 0) p ∙ cond-true (not high) 15 0 (ap not q) in
-      inr (subst (BranchBreaks o job label c (GotoF t j)) (sym e) (too_low off (λ k. false≢true (sym q ∙ all_raised o job few label c t j k))), λ z. no_ten 14 (sym e ∙ z)))
+      inr (
+        subst (BranchBreaks o job label c (GotoF t j)) (sym e)
+            (too_low off (λ k. false≢true (sym q ∙ all_raised o job few label c t j k))),
+        λ z. no_ten 14 (sym e ∙ z),
+      ))
       (cases_Bool high))
       (cases_Bool in_exit)
 
@@ -204,7 +226,8 @@ like o bytes s label h =
     let b = like_a_claim o.span s.places (claim_record bytes s label) in
     ⊎_elim (λ (t : b ≡ true). t) (λ (f : b ≡ false). no_ten 8 (sym (cond-false b 0 9 f) ∙ h)) (cases_Bool b)
 
-pub like_not : (o : Order) (bytes : List ℕ) (s : Sizes) (label : ℕ) → claim_rule o bytes s label ≢ 0 → (LikeAClaim o bytes s label → ⊥) × (claim_rule o bytes s label ≡ 9)
+pub like_not : (o : Order) (bytes : List ℕ) (s : Sizes) (label : ℕ) → claim_rule o bytes s label ≢ 0 →
+    (LikeAClaim o bytes s label → ⊥) × (claim_rule o bytes s label ≡ 9)
 like_not o bytes s label ne =
     let b = like_a_claim o.span s.places (claim_record bytes s label) in
     ⊎_elim (λ (t : b ≡ true). absurd (ne (cond-true b 0 9 t))) (λ (f : b ≡ false). (λ t. false≢true (sym f ∙ t), cond-false b 0 9 f)) (cases_Bool b)
@@ -262,7 +285,8 @@ module _ (o : Order) (levels bytes : List ℕ) where
     few = omega (arith, code_few bytes s s.instructions, opened_few bytes s opened)
 
     -- the labels that keep their rules, and the first that does not
-    labels_kept : (n : ℕ) → ((l : ℕ) → l < n → label_rule o levels (job_in bytes s) l ≡ 0) → Below n (WhereClaimed (job_in bytes s) (LabelKept o levels (job_in bytes s)))
+    labels_kept : (n : ℕ) → ((l : ℕ) → l < n → label_rule o levels (job_in bytes s) l ≡ 0) →
+        Below n (WhereClaimed (job_in bytes s) (LabelKept o levels (job_in bytes s)))
     labels_kept n all l h c i e f =
         ⊎_elim (λ p. p.0)
         (λ p. absurd (p.1 (where_zero (rule_at o levels (job_in bytes s) l) ((job_in bytes s).claim l) (fetch (job_in bytes s).code l) (all l h) c i e f)))
@@ -274,7 +298,9 @@ module _ (o : Order) (levels bytes : List ℕ) where
         (λ p. absurd (p.1 (where_zero (branch_at o (job_in bytes s) l) ((job_in bytes s).claim l) (fetch (job_in bytes s).code l) (all l h) c i e f)))
         (branch_judged o (job_in bytes s) l c few i)
 
-    label_broken : (l : ℕ) → l < exit (job_in bytes s) → ((k : ℕ) → k < l → label_rule o levels (job_in bytes s) k ≡ 0) → label_rule o levels (job_in bytes s) l ≢ 0 → BreaksAt (job_in bytes s) (LabelKept o levels (job_in bytes s)) (LabelBreaks o levels (job_in bytes s)) (label_rule o levels (job_in bytes s) l) l
+    label_broken : (l : ℕ) → l < exit (job_in bytes s) → ((k : ℕ) → k < l → label_rule o levels (job_in bytes s) k ≡ 0) →
+        label_rule o levels (job_in bytes s) l ≢ 0 →
+        BreaksAt (job_in bytes s) (LabelKept o levels (job_in bytes s)) (LabelBreaks o levels (job_in bytes s)) (label_rule o levels (job_in bytes s) l) l
     label_broken l within before ne =
         let w = where_some (rule_at o levels (job_in bytes s) l) ((job_in bytes s).claim l) (fetch (job_in bytes s).code l) ne in
         record {
@@ -284,10 +310,13 @@ module _ (o : Order) (levels bytes : List ℕ) where
           instruction = w.1;
           has = w.2;
           fetched = w.3;
-          broken = subst (LabelBreaks o levels (job_in bytes s) l w.0 w.1) (sym w.4) (⊎_elim (λ p. absurd (ne (w.4 ∙ p.1))) (λ p. p.0) (label_judged o levels (job_in bytes s) l w.0 w.1));
+          broken =
+              subst (LabelBreaks o levels (job_in bytes s) l w.0 w.1) (sym w.4)
+              (⊎_elim (λ p. absurd (ne (w.4 ∙ p.1))) (λ p. p.0) (label_judged o levels (job_in bytes s) l w.0 w.1));
         }
 
-    branch_broken : (l : ℕ) → l < exit (job_in bytes s) → ((k : ℕ) → k < l → branch_rule o (job_in bytes s) k ≡ 0) → branch_rule o (job_in bytes s) l ≢ 0 → BreaksAt (job_in bytes s) (BranchKept o (job_in bytes s)) (BranchBreaks o (job_in bytes s)) (branch_rule o (job_in bytes s) l) l
+    branch_broken : (l : ℕ) → l < exit (job_in bytes s) → ((k : ℕ) → k < l → branch_rule o (job_in bytes s) k ≡ 0) → branch_rule o (job_in bytes s) l ≢ 0 →
+        BreaksAt (job_in bytes s) (BranchKept o (job_in bytes s)) (BranchBreaks o (job_in bytes s)) (branch_rule o (job_in bytes s) l) l
     branch_broken l within before ne =
         let w = where_some (branch_at o (job_in bytes s) l) ((job_in bytes s).claim l) (fetch (job_in bytes s).code l) ne in
         record {
@@ -297,7 +326,9 @@ module _ (o : Order) (levels bytes : List ℕ) where
           instruction = w.1;
           has = w.2;
           fetched = w.3;
-          broken = subst (BranchBreaks o (job_in bytes s) l w.0 w.1) (sym w.4) (⊎_elim (λ p. absurd (ne (w.4 ∙ p.1))) (λ p. p.0) (branch_judged o (job_in bytes s) l w.0 few w.1));
+          broken =
+              subst (BranchBreaks o (job_in bytes s) l w.0 w.1) (sym w.4)
+              (⊎_elim (λ p. absurd (ne (w.4 ∙ p.1))) (λ p. p.0) (branch_judged o (job_in bytes s) l w.0 few w.1));
         }
 
     -- the rules of claims, where the records are as they should be
@@ -313,12 +344,22 @@ module _ (o : Order) (levels bytes : List ℕ) where
         let past_labels : R ≡ D = past_entry ∙ first_when_zero C D (ap (λ v. v.0) c.is) in
         ⊎_elim
         (λ (b : Clear (branch_rule o (job_in bytes s)) (exit (job_in bytes s)) D).
-        inl (past_labels ∙ b.is, record { sizes = s; decodes = d; well_claimed = record { entry = p.0; labels = kept; branches = branches_kept (exit (job_in bytes s)) b.all } }))
+        inl (
+          past_labels ∙ b.is,
+          record {
+            sizes = s;
+            decodes = d;
+            well_claimed = record { entry = p.0; labels = kept; branches = branches_kept (exit (job_in bytes s)) b.all };
+          },
+        ))
         (λ (b : Found (branch_rule o (job_in bytes s)) (exit (job_in bytes s)) D).
-        refused R (branch_rule o (job_in bytes s) b.label) b.label (past_labels ∙ b.is) b.some (at_branch d p.0 kept (branch_broken b.label b.within b.before b.some)))
+        refused R (branch_rule o (job_in bytes s) b.label) b.label (past_labels ∙ b.is) b.some
+        (at_branch d p.0 kept (branch_broken b.label b.within b.before b.some)))
         (search_first (branch_rule o (job_in bytes s)) (exit (job_in bytes s))))
         (λ (c : Found (label_rule o levels (job_in bytes s)) (exit (job_in bytes s)) C).
-        refused R (label_rule o levels (job_in bytes s) c.label) c.label (past_entry ∙ first_when_some C D (λ z. c.some (ap (λ v. v.0) (sym c.is) ∙ z)) ∙ c.is) c.some (at_label d p.0 (label_broken c.label c.within c.before c.some)))
+        refused R (label_rule o levels (job_in bytes s) c.label) c.label
+        (past_entry ∙ first_when_some C D (λ z. c.some (ap (λ v. v.0) (sym c.is) ∙ z)) ∙ c.is) c.some
+        (at_label d p.0 (label_broken c.label c.within c.before c.some)))
         (search_first (label_rule o levels (job_in bytes s)) (exit (job_in bytes s))))
         (λ (p : (BeginsEmpty (job_in bytes s) → ⊥) × (entry_rule (job_in bytes s) ≡ 10)).
         refused R 10 0 (first_when_some E (first_of C D) (λ z. no_ten 9 (sym p.1 ∙ z)) ∙ ap (λ k. (k, 0)) p.1) (λ z. no_ten 9 z) (entry d p.0))
@@ -332,18 +373,24 @@ module _ (o : Order) (levels bytes : List ℕ) where
         let past : records_verdict o bytes s ≡ B = first_when_zero A B (ap (λ v. v.0) a.is) in
         ⊎_elim
         (λ (b : Clear (claim_rule o bytes s) s.instructions B).
-        subst Outcome (sym (first_when_zero (records_verdict o bytes s) R (ap (λ v. v.0) (past ∙ b.is)))) (rules_judged (record { opened = opened; instructions = all_say; claims = λ l h. like o bytes s l (b.all l h) })))
+        subst Outcome (sym (first_when_zero (records_verdict o bytes s) R (ap (λ v. v.0) (past ∙ b.is)))) (rules_judged (record {
+          opened = opened;
+          instructions = all_say;
+          claims = λ l h. like o bytes s l (b.all l h);
+        })))
         (λ (b : Found (claim_rule o bytes s) s.instructions B).
         let nine = like_not o bytes s b.label b.some in
         let is : records_verdict o bytes s ≡ (9, b.label) = past ∙ b.is ∙ ap (λ k. (k, b.label)) nine.1 in
-        refused (sized_verdict o levels bytes (Ok s)) 9 b.label (first_when_some (records_verdict o bytes s) R (λ z. no_ten 8 (ap (λ v. v.0) (sym is) ∙ z)) ∙ is) (λ z. no_ten 8 z)
+        refused (sized_verdict o levels bytes (Ok s)) 9 b.label
+        (first_when_some (records_verdict o bytes s) R (λ z. no_ten 8 (ap (λ v. v.0) (sym is) ∙ z)) ∙ is) (λ z. no_ten 8 z)
         (claim opened all_say b.within (λ l h. like o bytes s l (b.before l h)) nine.0))
         (search_first (claim_rule o bytes s) s.instructions))
         (λ (a : Found (instruction_rule bytes s) s.instructions A).
         let eight = says_not bytes s a.label a.some in
         let is : records_verdict o bytes s ≡ (8, a.label) =
         first_when_some A B (λ z. a.some (ap (λ v. v.0) (sym a.is) ∙ z)) ∙ a.is ∙ ap (λ k. (k, a.label)) eight.1 in
-        refused (sized_verdict o levels bytes (Ok s)) 8 a.label (first_when_some (records_verdict o bytes s) R (λ z. no_ten 7 (ap (λ v. v.0) (sym is) ∙ z)) ∙ is) (λ z. no_ten 7 z)
+        refused (sized_verdict o levels bytes (Ok s)) 8 a.label
+        (first_when_some (records_verdict o bytes s) R (λ z. no_ten 7 (ap (λ v. v.0) (sym is) ∙ z)) ∙ is) (λ z. no_ten 7 z)
         (instruction opened a.within (λ l h. says bytes s l (a.before l h)) eight.0))
         (search_first (instruction_rule bytes s) s.instructions)
 
@@ -357,12 +404,14 @@ module _ (o : Order) (levels bytes : List ℕ) where
   same_sizes : (s t : Sizes) → opening bytes ≡ Ok s → opening bytes ≡ Ok t → s ≡ t
   same_sizes s t p q = cc
 
-  pub label_clash : {number : ℕ} (job : ProgramWithClaims) (label : ℕ) (c : Claimed) (i : Instruction) → LabelKept o levels job label c i → LabelBreaks o levels job label c i number → ⊥
+  pub label_clash : {number : ℕ} (job : ProgramWithClaims) (label : ℕ) (c : Claimed) (i : Instruction) → LabelKept o levels job label c i →
+      LabelBreaks o levels job label c i number → ⊥
   label_clash job label c i k (stack f) = f k.fits
   label_clash job label c i k (store _ f) = f k.stores
   label_clash job label c i k (successor _ _ f) = f k.taken
 
-  pub branch_clash : {number : ℕ} (job : ProgramWithClaims) (label : ℕ) (c : Claimed) (i : Instruction) → BranchKept o job label c i → BranchBreaks o job label c i number → ⊥
+  pub branch_clash : {number : ℕ} (job : ProgramWithClaims) (label : ℕ) (c : Claimed) (i : Instruction) → BranchKept o job label c i →
+      BranchBreaks o job label c i number → ⊥
   branch_clash job label c i k (exit_inside f) = f k.avoids
   branch_clash job label c i k (too_low _ f) = f k.raised
 
@@ -378,9 +427,11 @@ module _ (o : Order) (levels bytes : List ℕ) where
       broken (subst (λ t. Below t.instructions (LikeAClaim o bytes t)) (sym (same_sizes s m.sizes e m.decodes.opened)) m.decodes.claims label within)
   not_both (entry {s = s} d broken) m = broken (claims_of s d.opened m).entry
   not_both (at_label {s = s} {label = label} d e b) m =
-      label_clash (job_in bytes s) label b.claimed b.instruction ((claims_of s d.opened m).labels label b.within b.claimed b.instruction b.has b.fetched) b.broken
+      label_clash (job_in bytes s) label b.claimed b.instruction
+      ((claims_of s d.opened m).labels label b.within b.claimed b.instruction b.has b.fetched) b.broken
   not_both (at_branch {s = s} {label = label} d e kept b) m =
-      branch_clash (job_in bytes s) label b.claimed b.instruction ((claims_of s d.opened m).branches label b.within b.claimed b.instruction b.has b.fetched) b.broken
+      branch_clash (job_in bytes s) label b.claimed b.instruction
+      ((claims_of s d.opened m).branches label b.within b.claimed b.instruction b.has b.fetched) b.broken
 
   pub judged : Judged o levels bytes
   judged =

@@ -12,7 +12,8 @@ use Rattle.job.specs.Records.{kind}
 abbrev pub has_kind : List Place → Place → Kind × ℕ → Bool
 has_kind stack d at = same_kind at.0 (kind (get_or stack at.1 d))
 
-pub begins_at : (ks : List Kind) (stack : List Place) (d : Place) (a n : ℕ) → a + n ≡ length stack → length ks ≤ n → begins ks (map kind (drop a stack)) ≡ list_all (has_kind stack d) (zip ks (range_with_len a n))
+pub begins_at : (ks : List Kind) (stack : List Place) (d : Place) (a n : ℕ) → a + n ≡ length stack → length ks ≤ n →
+    begins ks (map kind (drop a stack)) ≡ list_all (has_kind stack d) (zip ks (range_with_len a n))
 begins_at [] stack d a n e h = refl
 begins_at (k ∷ ks) stack d a zero e h = absurd (omega arith)
 begins_at (k ∷ ks) stack d a (suc n) e h =

@@ -95,10 +95,12 @@ module _ (o : Order) (laws : Laws o) where
     claim_of ps = record { surrounding = p; stack = ps }
 
     -- the places under the popped ones stay as they are
-    under_same : (i : Instruction) (top ps : List Place) → ((q : Place) → raised o (claim_of ps) i q ≡ q) → (qs : List Place) (next : ℕ) → Takes o job (top ++ map (raised o (claim_of ps) i) qs) next → Takes o job (top ++ qs) next
+    under_same : (i : Instruction) (top ps : List Place) → ((q : Place) → raised o (claim_of ps) i q ≡ q) → (qs : List Place) (next : ℕ) →
+        Takes o job (top ++ map (raised o (claim_of ps) i) qs) next → Takes o job (top ++ qs) next
     under_same i top ps same qs next t = subst (λ xs. Takes o job (top ++ xs) next) (map_same (raised o (claim_of ps) i) same qs) t
 
-    pub kept_leaves : (ps : List Place) (i : Instruction) → Sound exit i → Levels o ps → FitsItsStack (claim_of ps) i → StoresUpward o levels (claim_of ps) i → LeftBy levels job (claim_of ps) i
+    pub kept_leaves : (ps : List Place) (i : Instruction) → Sound exit i → Levels o ps → FitsItsStack (claim_of ps) i →
+        StoresUpward o levels (claim_of ps) i → LeftBy levels job (claim_of ps) i
     kept_leaves ps (Load v) (sound.load small) ls f st =
         record {
           places = IntegerAt (o.join (get_or levels v 0) p) ∷ ps;
@@ -107,7 +109,8 @@ module _ (o : Order) (laws : Laws o) where
         }
     kept_leaves ps (Store v) (sound.store small) ls f st = by (one_integer ps f.rest f.popped) (st v refl)
       where
-        by : {qs : List Place} → OneInteger qs → o.at_most (o.join (level (get_or qs 0 (IntegerAt 0))) p) (get_or levels v 0) ≡ true → LeftBy levels job (claim_of qs) (Store v)
+        by : {qs : List Place} → OneInteger qs → o.at_most (o.join (level (get_or qs 0 (IntegerAt 0))) p) (get_or levels v 0) ≡ true →
+            LeftBy levels job (claim_of qs) (Store v)
         by (one {a = a} {ps = qs}) h = record { places = qs; left = store small h; taken = under_same (Store v) [] (IntegerAt a ∷ qs) (λ q. refl) qs }
     kept_leaves ps (Push x) sound.push ls f st =
         record {
@@ -118,23 +121,48 @@ module _ (o : Order) (laws : Laws o) where
     kept_leaves ps Add sound.add ls f st = by (two_integers ps f.rest f.popped)
       where
         by : {qs : List Place} → TwoIntegers qs → LeftBy levels job (claim_of qs) Add
-        by (two {a = a} {b = b} {ps = qs}) = record { places = IntegerAt (o.join (o.join a b) p) ∷ qs; left = add; taken = under_same Add (IntegerAt (o.join (o.join a b) p) ∷ []) (IntegerAt a ∷ IntegerAt b ∷ qs) (λ q. refl) qs }
+        by (two {a = a} {b = b} {ps = qs}) =
+            record {
+              places = IntegerAt (o.join (o.join a b) p) ∷ qs;
+              left = add;
+              taken = under_same Add (IntegerAt (o.join (o.join a b) p) ∷ []) (IntegerAt a ∷ IntegerAt b ∷ qs) (λ q. refl) qs;
+            }
     kept_leaves ps Sub sound.sub ls f st = by (two_integers ps f.rest f.popped)
       where
         by : {qs : List Place} → TwoIntegers qs → LeftBy levels job (claim_of qs) Sub
-        by (two {a = a} {b = b} {ps = qs}) = record { places = IntegerAt (o.join (o.join a b) p) ∷ qs; left = sub; taken = under_same Sub (IntegerAt (o.join (o.join a b) p) ∷ []) (IntegerAt a ∷ IntegerAt b ∷ qs) (λ q. refl) qs }
+        by (two {a = a} {b = b} {ps = qs}) =
+            record {
+              places = IntegerAt (o.join (o.join a b) p) ∷ qs;
+              left = sub;
+              taken = under_same Sub (IntegerAt (o.join (o.join a b) p) ∷ []) (IntegerAt a ∷ IntegerAt b ∷ qs) (λ q. refl) qs;
+            }
     kept_leaves ps Eq sound.eq ls f st = by (two_integers ps f.rest f.popped)
       where
         by : {qs : List Place} → TwoIntegers qs → LeftBy levels job (claim_of qs) Eq
-        by (two {a = a} {b = b} {ps = qs}) = record { places = BooleanAt (o.join (o.join a b) p) ∷ qs; left = eq; taken = under_same Eq (BooleanAt (o.join (o.join a b) p) ∷ []) (IntegerAt a ∷ IntegerAt b ∷ qs) (λ q. refl) qs }
+        by (two {a = a} {b = b} {ps = qs}) =
+            record {
+              places = BooleanAt (o.join (o.join a b) p) ∷ qs;
+              left = eq;
+              taken = under_same Eq (BooleanAt (o.join (o.join a b) p) ∷ []) (IntegerAt a ∷ IntegerAt b ∷ qs) (λ q. refl) qs;
+            }
     kept_leaves ps Less sound.less ls f st = by (two_integers ps f.rest f.popped)
       where
         by : {qs : List Place} → TwoIntegers qs → LeftBy levels job (claim_of qs) Less
-        by (two {a = a} {b = b} {ps = qs}) = record { places = BooleanAt (o.join (o.join a b) p) ∷ qs; left = less; taken = under_same Less (BooleanAt (o.join (o.join a b) p) ∷ []) (IntegerAt a ∷ IntegerAt b ∷ qs) (λ q. refl) qs }
+        by (two {a = a} {b = b} {ps = qs}) =
+            record {
+              places = BooleanAt (o.join (o.join a b) p) ∷ qs;
+              left = less;
+              taken = under_same Less (BooleanAt (o.join (o.join a b) p) ∷ []) (IntegerAt a ∷ IntegerAt b ∷ qs) (λ q. refl) qs;
+            }
     kept_leaves ps Not sound.not ls f st = by (one_boolean ps f.rest f.popped)
       where
         by : {qs : List Place} → OneBoolean qs → LeftBy levels job (claim_of qs) Not
-        by (flag {a = a} {ps = qs}) = record { places = BooleanAt (o.join a p) ∷ qs; left = not; taken = under_same Not (BooleanAt (o.join a p) ∷ []) (BooleanAt a ∷ qs) (λ q. refl) qs }
+        by (flag {a = a} {ps = qs}) =
+            record {
+              places = BooleanAt (o.join a p) ∷ qs;
+              left = not;
+              taken = under_same Not (BooleanAt (o.join a p) ∷ []) (BooleanAt a ∷ qs) (λ q. refl) qs;
+            }
     kept_leaves ps (Goto m) (sound.goto small) ls f st = record { places = ps; left = goto; taken = under_same (Goto m) [] ps (λ q. refl) ps }
     kept_leaves ps (GotoF m j) (sound.gotof small) ls f st = by (one_boolean ps f.rest f.popped) ls
       where

@@ -14,7 +14,8 @@ use Rattle.job.specs.Records.{Claimed}
 use Rattle.checker.specs.Leaving.{pushed_place, leaves, fits_under, all_fit_under}
 
 -- A place is pushed where the language's table says that a kind is.
-pushed_as_listed : (o : Order) (levels : List ℕ) (c : Claimed) (i : Instruction) → length (option_to_list (pushed_place o levels c i)) ≡ length (option_to_list (pushes i))
+pushed_as_listed : (o : Order) (levels : List ℕ) (c : Claimed) (i : Instruction) →
+    length (option_to_list (pushed_place o levels c i)) ≡ length (option_to_list (pushes i))
 pushed_as_listed o levels c (Load v) = refl
 pushed_as_listed o levels c (Store v) = refl
 pushed_as_listed o levels c (Push x) = refl
@@ -26,7 +27,8 @@ pushed_as_listed o levels c Not = refl
 pushed_as_listed o levels c (Goto m) = refl
 pushed_as_listed o levels c (GotoF m j) = refl
 
-pub leaves_length : (o : Order) (levels : List ℕ) (c : Claimed) (i : Instruction) → length (leaves o levels c i) ≡ length (option_to_list (pushes i)) + (length c.stack - length (pops i))
+pub leaves_length : (o : Order) (levels : List ℕ) (c : Claimed) (i : Instruction) →
+    length (leaves o levels c i) ≡ length (option_to_list (pushes i)) + (length c.stack - length (pops i))
 leaves_length o levels c i = simp (length-append, length-map, length-drop) (omega (arith, pushed_as_listed o levels c i))
 
 pub one_if_some : {X : Type 0} (p : Option X) → length (option_to_list p) ≡ bool_byte (is_some p)
@@ -34,15 +36,18 @@ one_if_some None = refl
 one_if_some (Some x) = refl
 
 -- a place below the one that is pushed, if one is
-rest_at : (f : Place → Place) (k i : ℕ) (xs : List Place) (d : Place) → i < length (map f (drop k xs)) → get_or (map f (drop k xs)) i d ≡ f (get_or xs (i + k) d)
+rest_at : (f : Place → Place) (k i : ℕ) (xs : List Place) (d : Place) → i < length (map f (drop k xs)) →
+    get_or (map f (drop k xs)) i d ≡ f (get_or xs (i + k) d)
 rest_at f k i xs d h =
     get_or-map f (drop k xs) i d d (rw length-map at h) ∙ ap f (get_or-drop k xs i d ∙ ap (λ m. get_or xs m d) (omega arith))
 
-pub below_none : (p : Option Place) (f : Place → Place) (k i : ℕ) (xs : List Place) (d : Place) → p ≡ None → i < length (option_to_list p ++ map f (drop k xs)) → get_or (option_to_list p ++ map f (drop k xs)) i d ≡ f (get_or xs (i + k) d)
+pub below_none : (p : Option Place) (f : Place → Place) (k i : ℕ) (xs : List Place) (d : Place) → p ≡ None →
+    i < length (option_to_list p ++ map f (drop k xs)) → get_or (option_to_list p ++ map f (drop k xs)) i d ≡ f (get_or xs (i + k) d)
 below_none None f k i xs d e h = rest_at f k i xs d h
 below_none (Some q) f k i xs d e h = cc
 
-pub below_pushed : (p : Option Place) (q : Place) (f : Place → Place) (k i : ℕ) (xs : List Place) (d : Place) → p ≡ Some q → 0 < i → i < length (option_to_list p ++ map f (drop k xs)) → get_or (option_to_list p ++ map f (drop k xs)) i d ≡ f (get_or xs (i - 1 + k) d)
+pub below_pushed : (p : Option Place) (q : Place) (f : Place → Place) (k i : ℕ) (xs : List Place) (d : Place) → p ≡ Some q → 0 < i →
+    i < length (option_to_list p ++ map f (drop k xs)) → get_or (option_to_list p ++ map f (drop k xs)) i d ≡ f (get_or xs (i - 1 + k) d)
 below_pushed None q f k i xs d e some h = cc
 below_pushed (Some r) q f k zero xs d e some h = absurd (omega arith)
 below_pushed (Some r) q f k (suc i) xs d e some h = rest_at f k i xs d (omega arith) ∙ ap (λ m. f (get_or xs m d)) (omega arith)

@@ -16,7 +16,8 @@ module _ {o : Order} {levels : List ℕ} {w : ℕ} where
   same_back p = record { left = p.right; right = p.left; agree = λ v hv low. sym (p.agree v hv low) }
 
   -- two values written to one variable, equal where it is open
-  pub written : (v : ℕ) (x y : ℤ) (vs ws : List ℤ) → v < 32 → (o.at_most (get_or levels v 0) w ≡ true → x ≡ y) → SameWhenOpen o levels w vs ws → SameWhenOpen o levels w (set vs v x) (set ws v y)
+  pub written : (v : ℕ) (x y : ℤ) (vs ws : List ℤ) → v < 32 → (o.at_most (get_or levels v 0) w ≡ true → x ≡ y) → SameWhenOpen o levels w vs ws →
+      SameWhenOpen o levels w (set vs v x) (set ws v y)
   written v x y vs ws small h same =
       record {
         left = length-set vs v x ∙ same.left;
@@ -24,8 +25,12 @@ module _ {o : Order} {levels : List ℕ} {w : ℕ} where
         agree = λ u hu low. at_variable u hu low (eqb u v) refl;
       }
     where
-      at_variable : (u : ℕ) → u < 32 → o.at_most (get_or levels u 0) w ≡ true → (t : Bool) → eqb u v ≡ t → get_or (set vs v x) u (pos 0) ≡ get_or (set ws v y) u (pos 0)
+      at_variable : (u : ℕ) → u < 32 → o.at_most (get_or levels u 0) w ≡ true → (t : Bool) → eqb u v ≡ t →
+          get_or (set vs v x) u (pos 0) ≡ get_or (set ws v y) u (pos 0)
       at_variable u hu low true e =
           let is = eqb-true u v e in
-          subst (λ n. get_or (set vs v x) n (pos 0) ≡ get_or (set ws v y) n (pos 0)) (sym is) (get_or-set_same vs v x (pos 0) (omega (arith, same.left)) ∙ h (subst (λ n. o.at_most (get_or levels n 0) w ≡ true) is low) ∙ sym (get_or-set_same ws v y (pos 0) (omega (arith, same.right))))
-      at_variable u hu low false e = let other = eqb-false u v e in get_or-set_other vs v u x (pos 0) other ∙ same.agree u hu low ∙ sym (get_or-set_other ws v u y (pos 0) other)
+          subst (λ n. get_or (set vs v x) n (pos 0) ≡ get_or (set ws v y) n (pos 0)) (sym is)
+          (get_or-set_same vs v x (pos 0) (omega (arith, same.left)) ∙ h (subst (λ n. o.at_most (get_or levels n 0) w ≡ true) is low)
+          ∙ sym (get_or-set_same ws v y (pos 0) (omega (arith, same.right))))
+      at_variable u hu low false e =
+          let other = eqb-false u v e in get_or-set_other vs v u x (pos 0) other ∙ same.agree u hu low ∙ sym (get_or-set_other ws v u y (pos 0) other)

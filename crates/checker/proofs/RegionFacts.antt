@@ -9,17 +9,21 @@ module _ (code : List Instruction) (junction : ℕ) (marks : List Bool) where
   unfolding spread_below
   spread_none = refl
 
-  more : (n : ℕ) → spread_below code junction (n + 1) marks ≡ cond (get_or (spread_below code junction n marks) n false) (mark_all junction (next_labels code n) (spread_below code junction n marks)) (spread_below code junction n marks)
+  more : (n : ℕ) →
+      spread_below code junction (n + 1) marks ≡ cond (get_or (spread_below code junction n marks) n false)
+      (mark_all junction (next_labels code n) (spread_below code junction n marks)) (spread_below code junction n marks)
   unfolding spread_below
   more n = ap (λ m. spread_below code junction m marks) (add-one n)
 
   -- one label more, where the marks so far are known by another name
-  pub spread_marked : (n : ℕ) (so_far : List Bool) → so_far ≡ spread_below code junction n marks → get_or so_far n false ≡ true → mark_all junction (next_labels code n) so_far ≡ spread_below code junction (n + 1) marks
+  pub spread_marked : (n : ℕ) (so_far : List Bool) → so_far ≡ spread_below code junction n marks → get_or so_far n false ≡ true →
+      mark_all junction (next_labels code n) so_far ≡ spread_below code junction (n + 1) marks
   spread_marked n so_far e h =
       ap (mark_all junction (next_labels code n)) e
       ∙ sym (more n ∙ cond-true (get_or (spread_below code junction n marks) n false) _ _ (ap (λ m. get_or m n false) (sym e) ∙ h))
 
-  pub spread_unmarked : (n : ℕ) (so_far : List Bool) → so_far ≡ spread_below code junction n marks → get_or so_far n false ≡ false → so_far ≡ spread_below code junction (n + 1) marks
+  pub spread_unmarked : (n : ℕ) (so_far : List Bool) → so_far ≡ spread_below code junction n marks → get_or so_far n false ≡ false →
+      so_far ≡ spread_below code junction (n + 1) marks
   spread_unmarked n so_far e h =
       e ∙ sym (more n ∙ cond-false (get_or (spread_below code junction n marks) n false) _ _ (ap (λ m. get_or m n false) (sym e) ∙ h))
 

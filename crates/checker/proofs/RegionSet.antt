@@ -77,7 +77,8 @@ all_only j l [] m h = inr h
 all_only j l (x ∷ ls) m h =
     ⊎_elim (λ (p : Contains ls l × (l ≢ j)). inl (contains_rest x ls l p.0, p.1))
     (λ (k : Marked (one j x m) l).
-    ⊎_elim (λ (p : (l ≡ x) × (x ≢ j)). inl (subst (Contains (x ∷ ls)) (sym p.0) (contains_first x ls), λ e. p.1 (sym p.0 ∙ e))) (λ (n : Marked m l). inr n) (one_only j x l m k))
+    ⊎_elim (λ (p : (l ≡ x) × (x ≢ j)). inl (subst (Contains (x ∷ ls)) (sym p.0) (contains_first x ls), λ e. p.1 (sym p.0 ∙ e))) (λ (n : Marked m l). inr n)
+    (one_only j x l m k))
     (all_only j l ls (one j x m) h)
 
 module _ (code : List Instruction) (j branch : ℕ) where
@@ -92,7 +93,8 @@ module _ (code : List Instruction) (j branch : ℕ) where
       let before : List Bool = spread_below code j n m in
       let so_far : Inside before = below_inside n m h in
       cond_both (get_or before n false) (mark_all j (next_labels code n) before) before Inside
-      (λ marked l k. ⊎_elim (λ (p : Contains (next_labels code n) l × (l ≢ j)). onward (so_far n marked) p.0 p.1) (λ (q : Marked before l). so_far l q) (all_only j l (next_labels code n) before k))
+      (λ marked l k. ⊎_elim (λ (p : Contains (next_labels code n) l × (l ≢ j)). onward (so_far n marked) p.0 p.1) (λ (q : Marked before l). so_far l q)
+      (all_only j l (next_labels code n) before k))
       (λ _. so_far)
 
   times_inside : (k : ℕ) (m : List Bool) → Inside m → Inside (spread_times code j k m)
@@ -105,19 +107,24 @@ module _ (code : List Instruction) (j branch : ℕ) where
   below_keeps zero m = kept_self m
   below_keeps (suc n) m =
       let before : List Bool = spread_below code j n m in
-      cond_both (get_or before n false) (mark_all j (next_labels code n) before) before (Kept m) (λ _. kept_on (below_keeps n m) (all_keeps j (next_labels code n) before)) (λ _. below_keeps n m)
+      cond_both (get_or before n false) (mark_all j (next_labels code n) before) before (Kept m)
+      (λ _. kept_on (below_keeps n m) (all_keeps j (next_labels code n) before)) (λ _. below_keeps n m)
 
   one_label_keeps : (n : ℕ) (m : List Bool) → Kept (spread_below code j n m) (spread_below code j (suc n) m)
   unfolding spread_below
   one_label_keeps n m =
       let before : List Bool = spread_below code j n m in
-      cond_both (get_or before n false) (mark_all j (next_labels code n) before) before (Kept before) (λ _. all_keeps j (next_labels code n) before) (λ _. kept_self before)
+      cond_both (get_or before n false) (mark_all j (next_labels code n) before) before (Kept before) (λ _. all_keeps j (next_labels code n) before)
+      (λ _. kept_self before)
 
   later_keeps : (a b : ℕ) (m : List Bool) → a ≤ b → Kept (spread_below code j a m) (spread_below code j b m)
-  later_keeps a b m = le_ind (λ n. Kept (spread_below code j a m) (spread_below code j n m)) (kept_self (spread_below code j a m)) (λ n _ k. kept_on k (one_label_keeps n m)) b
+  later_keeps a b m =
+      le_ind (λ n. Kept (spread_below code j a m) (spread_below code j n m)) (kept_self (spread_below code j a m))
+      (λ n _ k. kept_on k (one_label_keeps n m)) b
 
   -- what comes after a marked label is marked when the round is over
-  round_marks : (from label : ℕ) (m : List Bool) → from < length code → Marked m from → Contains (next_labels code from) label → label ≢ j → label < length m → Marked (spread_below code j (length code) m) label
+  round_marks : (from label : ℕ) (m : List Bool) → from < length code → Marked m from → Contains (next_labels code from) label → label ≢ j →
+      label < length m → Marked (spread_below code j (length code) m) label
   unfolding spread_below
   round_marks from label m within h a ne small =
       let before : List Bool = spread_below code j from m in
@@ -140,12 +147,23 @@ same_or_more [] [] k = inl refl
 same_or_more [] (b ∷ m') k = absurd (omega (arith, k.long))
 same_or_more (b ∷ m) [] k = absurd (omega (arith, k.long))
 same_or_more (true ∷ m) (true ∷ m') k =
-    ⊎_elim (λ (e : m' ≡ m). inl (ap (λ r. true ∷ r) e)) (λ (h : count m < count m'). inr (omega (arith, count_more true m, count_more true m'))) (same_or_more m m' (record { long = omega (arith, k.long); marks = λ l. k.marks (suc l) }))
+    ⊎_elim (λ (e : m' ≡ m). inl (ap (λ r. true ∷ r) e)) (λ (h : count m < count m'). inr (omega (arith, count_more true m, count_more true m')))
+    (same_or_more m m' (record {
+      long = omega (arith, k.long);
+      marks = λ l. k.marks (suc l);
+    }))
 same_or_more (true ∷ m) (false ∷ m') k = absurd (false≢true (k.marks 0 refl))
 same_or_more (false ∷ m) (true ∷ m') k =
-    ⊎_elim (λ (e : m' ≡ m). inr (omega (arith, count_more true m', ap count e))) (λ (h : count m < count m'). inr (omega (arith, count_more true m'))) (same_or_more m m' (record { long = omega (arith, k.long); marks = λ l. k.marks (suc l) }))
+    ⊎_elim (λ (e : m' ≡ m). inr (omega (arith, count_more true m', ap count e))) (λ (h : count m < count m'). inr (omega (arith, count_more true m')))
+    (same_or_more m m' (record {
+      long = omega (arith, k.long);
+      marks = λ l. k.marks (suc l);
+    }))
 same_or_more (false ∷ m) (false ∷ m') k =
-    ⊎_elim (λ (e : m' ≡ m). inl (ap (λ r. false ∷ r) e)) (λ (h : count m < count m'). inr h) (same_or_more m m' (record { long = omega (arith, k.long); marks = λ l. k.marks (suc l) }))
+    ⊎_elim (λ (e : m' ≡ m). inl (ap (λ r. false ∷ r) e)) (λ (h : count m < count m'). inr h) (same_or_more m m' (record {
+      long = omega (arith, k.long);
+      marks = λ l. k.marks (suc l);
+    }))
 
 module _ (code : List Instruction) (j : ℕ) (m : List Bool) where
   abbrev after : ℕ → List Bool
@@ -167,12 +185,14 @@ module _ (code : List Instruction) (j : ℕ) (m : List Bool) where
   at_rest_or_many (suc k) =
       ⊎_elim (λ (e : after (suc k) ≡ after k). inl (ap (spread_below code j (length code)) e))
       (λ (h : k ≤ count (after k)).
-      ⊎_elim (λ (e : after (suc k) ≡ after k). inl (ap (spread_below code j (length code)) e)) (λ (c : count (after k) < count (after (suc k))). inr (omega arith)) (same_or_more (after k) (after (suc k)) (round_keeps k)))
+      ⊎_elim (λ (e : after (suc k) ≡ after k). inl (ap (spread_below code j (length code)) e))
+      (λ (c : count (after k) < count (after (suc k))). inr (omega arith)) (same_or_more (after k) (after (suc k)) (round_keeps k)))
       (at_rest_or_many k)
 
   at_rest : (k : ℕ) → length m < k → after (suc k) ≡ after k
   at_rest k h =
-      ⊎_elim (λ (e : after (suc k) ≡ after k). e) (λ (c : k ≤ count (after k)). absurd (omega (arith, count_by-le-length (λ b. b) (after k), (times_keeps k).long))) (at_rest_or_many k)
+      ⊎_elim (λ (e : after (suc k) ≡ after k). e)
+      (λ (c : k ≤ count (after k)). absurd (omega (arith, count_by-le-length (λ b. b) (after k), (times_keeps k).long))) (at_rest_or_many k)
 
 module _ (code : List Instruction) (j branch : ℕ) where
   start : List Bool
@@ -189,12 +209,14 @@ module _ (code : List Instruction) (j branch : ℕ) where
   pub marks_are_region : (l : ℕ) → Marked (region code j branch) l → Region code j branch l
   marks_are_region =
       times_inside code j branch 130 (mark_all j (next_labels code branch) (replicate 129 false))
-      (λ l h. ⊎_elim (λ (p : Contains (next_labels code branch) l × (l ≢ j)). enter p.0 p.1) (λ (k : Marked (replicate 129 false) l). absurd (none_marked 129 l k)) (all_only j l (next_labels code branch) (replicate 129 false) h))
+      (λ l h. ⊎_elim (λ (p : Contains (next_labels code branch) l × (l ≢ j)). enter p.0 p.1)
+      (λ (k : Marked (replicate 129 false) l). absurd (none_marked 129 l k)) (all_only j l (next_labels code branch) (replicate 129 false) h))
 
   -- a label with something after it is an instruction's
   some_after : (from label : ℕ) → Contains (next_labels code from) label → from < length code
   some_after from label a =
-      ⊎_elim (λ (h : from < length code). h) (λ (h : length code ≤ from). absurd (contains_none label (subst (λ o. Contains (from_instruction o from) label) (slice_get_past code from h) a))) (cases_lt from (length code))
+      ⊎_elim (λ (h : from < length code). h) (λ (h : length code ≤ from).
+      absurd (contains_none label (subst (λ o. Contains (from_instruction o from) label) (slice_get_past code from h) a))) (cases_lt from (length code))
 
   -- every label of the region that the table has a place for is marked
   pub region_is_marked : {l : ℕ} → length code ≤ 128 → l ≤ 128 → Region code j branch l → Marked (region code j branch) l

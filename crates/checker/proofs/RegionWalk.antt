@@ -1,6 +1,6 @@
 -- One run in the region of a branch on a closed boolean: it changes no open variable, and it comes to the junction with
 -- some closed places on top of an end of the stack that the branch left. Assumes the laws of the order.
-use Rattle.std.proofs.Common.{◌≡◌, ℕ, ◌+◌, ◌<◌, ◌≤◌, Bool, true, false, cond, not, eqb, ◌⊎◌, List, [], ◌∷◌, length, get_or, set, ℤ, pos, int_lt, Some, sym, refl, ap, ◌∙◌, subst, inl, inr, arith}
+use Rattle.std.proofs.Common.{◌≡◌, ℕ, ◌+◌, ◌<◌, ◌≤◌, Bool, true, false, not, eqb, ◌⊎◌, List, [], ◌∷◌, length, get_or, set, ℤ, pos, int_lt, Some, sym, refl, ap, ◌∙◌, subst, inl, inr, arith}
 use Rattle.std.specs.List.{Contains}
 use Rattle.checker.proofs.ContainsFacts.{contains_first}
 use Rattle.std.proofs.lemmas.Bool.{eqb-true, eqb-false}
@@ -86,14 +86,16 @@ module _ (o : Order) (w : ℕ) where
     meet_ends (kept u) (under f) r = absurd (let long = under_length u in let short = end_length f in omega arith)
     meet_ends (under e) (kept v) r = absurd (let long = under_length v in let short = end_length e in omega arith)
 
-    pub meet : {ps qs : List Place} {s t s' t' : List Value} → Keeps ps s qs s' → Keeps ps t qs t' → Fits qs s' → Fits qs t' → Agree o w ps s t → Agree o w qs s' t'
+    pub meet : {ps qs : List Place} {s t s' t' : List Value} → Keeps ps s qs s' → Keeps ps t qs t' → Fits qs s' → Fits qs t' → Agree o w ps s t →
+        Agree o w qs s' t'
     meet (low e) (low f) fs ft r = meet_ends e f r
     meet (above h k) k' (fits_int fs) (fits_int ft) r = same_int (λ l. absurd (h l)) (meet k (keeps_pop k') fs ft r)
     meet (above h k) k' (fits_flag fs) (fits_flag ft) r = same_flag (λ l. absurd (h l)) (meet k (keeps_pop k') fs ft r)
     meet (low e) (above h k) (fits_int fs) (fits_int ft) r = same_int (λ l. absurd (h l)) (meet (low (end_pop e)) k fs ft r)
     meet (low e) (above h k) (fits_flag fs) (fits_flag ft) r = same_flag (λ l. absurd (h l)) (meet (low (end_pop e)) k fs ft r)
 
-    module _ (levels : List ℕ) (graded : LevelsOfVariables o levels) (code : List Instruction) (p l : ℕ) (hp : p < o.span) (closed : o.at_most p w ≡ true → ⊥) where
+    module _ (levels : List ℕ) (graded : LevelsOfVariables o levels) (code : List Instruction) (p l : ℕ) (hp : p < o.span)
+        (closed : o.at_most p w ≡ true → ⊥) where
       -- One step at a label that is surrounded by a closed level.
       record Hidden (i : Instruction) (ps : List Place) (s : List Value) (qs : List Place) (t : List Value) (vs : List ℤ) : Type 0 where
         next : ℕ
@@ -105,38 +107,64 @@ module _ (o : Order) (w : ℕ) where
         keeps : Keeps ps s qs stack
         unchanged : SameWhenOpen o levels w vs values
 
+      hidden : {i : Instruction} {ps : List Place} {s : List Value} {qs : List Place} {t : List Value} {vs : List ℤ} {next : ℕ} {values : List ℤ} →
+          (stack : List Value) → code ⊢ at l t vs ⟶ at next stack values → Contains (successors i l) next →
+          Fits qs stack → Keeps ps s qs stack → SameWhenOpen o levels w vs values → Hidden i ps s qs t vs
+      hidden {next = next} {values = values} stack by_rule among fits keeps unchanged =
+          record {
+            next = next;
+            stack = stack;
+            values = values;
+            by_rule = by_rule;
+            among = among;
+            fits = fits;
+            keeps = keeps;
+            unchanged = unchanged;
+          }
+
       closed_join : (a : ℕ) → a < o.span → o.at_most (o.join a p) w ≡ true → ⊥
       closed_join a ha h = closed (low_right o w laws a p ha hp h)
 
-      hidden_store : (v a : ℕ) (x : ℤ) (vs : List ℤ) → v < 32 → a < o.span → o.at_most (o.join a p) (get_or levels v 0) ≡ true → length vs ≡ 32 → SameWhenOpen o levels w vs (set vs v x)
+      hidden_store : (v a : ℕ) (x : ℤ) (vs : List ℤ) → v < 32 → a < o.span → o.at_most (o.join a p) (get_or levels v 0) ≡ true → length vs ≡ 32 →
+          SameWhenOpen o levels w vs (set vs v x)
       hidden_store v a x vs small ha up sized =
-          let high : o.at_most (get_or levels v 0) w ≡ true → get_or vs v (pos 0) ≡ x = λ seen. absurd (closed_join a ha (laws.transitive (o.join a p) (get_or levels v 0) w up seen)) in
-          subst (λ us. SameWhenOpen o levels w us (set vs v x)) (set-get_or vs v (pos 0)) (written v (get_or vs v (pos 0)) x vs vs small high (same_here vs sized))
+          let high : o.at_most (get_or levels v 0) w ≡ true → get_or vs v (pos 0) ≡ x =
+          λ seen. absurd (closed_join a ha (laws.transitive (o.join a p) (get_or levels v 0) w up seen)) in
+          subst (λ us. SameWhenOpen o levels w us (set vs v x)) (set-get_or vs v (pos 0))
+          (written v (get_or vs v (pos 0)) x vs vs small high (same_here vs sized))
 
-      hidden_step : {i : Instruction} {ps qs rs : List Place} {s t : List Value} → fetch code l ≡ Some i → Leaves o levels p i qs rs → Levels o qs → (vs : List ℤ) → length vs ≡ 32 → Fits qs t → Keeps ps s qs t → Hidden i ps s rs t vs
+      hidden_step : {i : Instruction} {ps qs rs : List Place} {s t : List Value} → fetch code l ≡ Some i → Leaves o levels p i qs rs → Levels o qs →
+          (vs : List ℤ) → length vs ≡ 32 → Fits qs t → Keeps ps s qs t → Hidden i ps s rs t vs
       hidden_step {t = t} at_l (leaving.load {v = v} small room) ls vs sized f k =
-          record { next = l + 1; stack = Int (get_or vs v (pos 0)) ∷ t; values = vs; by_rule = rule.load at_l small (omega (arith, fits_length f)); among = contains_first (l + 1) []; fits = fits_int f; keeps = above (closed_join (get_or levels v 0) (graded v small)) k; unchanged = same_here vs sized }
+          hidden (Int (get_or vs v (pos 0)) ∷ t) (rule.load at_l small (omega (arith, fits_length f))) (contains_first (l + 1) []) (fits_int f)
+          (above (closed_join (get_or levels v 0) (graded v small)) k) (same_here vs sized)
       hidden_step at_l (leaving.store {v = v} {a = a} small up) (sound.more ha ls) vs sized (fits_int {x = x} {s = t} f) k =
-          record { next = l + 1; stack = t; values = set vs v x; by_rule = rule.store at_l small; among = contains_first (l + 1) []; fits = f; keeps = keeps_pop k; unchanged = hidden_store v a x vs small ha up sized }
+          hidden t (rule.store at_l small) (contains_first (l + 1) []) f (keeps_pop k) (hidden_store v a x vs small ha up sized)
       hidden_step {t = t} at_l (leaving.push {x = x} room) ls vs sized f k =
-          record { next = l + 1; stack = Int x ∷ t; values = vs; by_rule = rule.push at_l (omega (arith, fits_length f)); among = contains_first (l + 1) []; fits = fits_int f; keeps = above closed k; unchanged = same_here vs sized }
+          hidden (Int x ∷ t) (rule.push at_l (omega (arith, fits_length f))) (contains_first (l + 1) []) (fits_int f) (above closed k) (same_here vs sized)
       hidden_step at_l (leaving.add {a = a} {b = b}) (sound.more ha (sound.more hb ls)) vs sized (fits_int {x = x} (fits_int {x = u} {s = t} f)) k =
-          record { next = l + 1; stack = Int (sum u x) ∷ t; values = vs; by_rule = rule.add at_l; among = contains_first (l + 1) []; fits = fits_int f; keeps = above (closed_join (o.join a b) (join_level o laws a b ha hb)) (keeps_pop (keeps_pop k)); unchanged = same_here vs sized }
+          hidden (Int (sum u x) ∷ t) (rule.add at_l) (contains_first (l + 1) []) (fits_int f)
+          (above (closed_join (o.join a b) (join_level o laws a b ha hb)) (keeps_pop (keeps_pop k))) (same_here vs sized)
       hidden_step at_l (leaving.sub {a = a} {b = b}) (sound.more ha (sound.more hb ls)) vs sized (fits_int {x = x} (fits_int {x = u} {s = t} f)) k =
-          record { next = l + 1; stack = Int (difference u x) ∷ t; values = vs; by_rule = rule.sub at_l; among = contains_first (l + 1) []; fits = fits_int f; keeps = above (closed_join (o.join a b) (join_level o laws a b ha hb)) (keeps_pop (keeps_pop k)); unchanged = same_here vs sized }
+          hidden (Int (difference u x) ∷ t) (rule.sub at_l) (contains_first (l + 1) []) (fits_int f)
+          (above (closed_join (o.join a b) (join_level o laws a b ha hb)) (keeps_pop (keeps_pop k))) (same_here vs sized)
       hidden_step at_l (leaving.eq {a = a} {b = b}) (sound.more ha (sound.more hb ls)) vs sized (fits_int {x = x} (fits_int {x = u} {s = t} f)) k =
-          record { next = l + 1; stack = Flag (int_eq u x) ∷ t; values = vs; by_rule = rule.eq at_l; among = contains_first (l + 1) []; fits = fits_flag f; keeps = above (closed_join (o.join a b) (join_level o laws a b ha hb)) (keeps_pop (keeps_pop k)); unchanged = same_here vs sized }
+          hidden (Flag (int_eq u x) ∷ t) (rule.eq at_l) (contains_first (l + 1) []) (fits_flag f)
+          (above (closed_join (o.join a b) (join_level o laws a b ha hb)) (keeps_pop (keeps_pop k))) (same_here vs sized)
       hidden_step at_l (leaving.less {a = a} {b = b}) (sound.more ha (sound.more hb ls)) vs sized (fits_int {x = x} (fits_int {x = u} {s = t} f)) k =
-          record { next = l + 1; stack = Flag (int_lt u x) ∷ t; values = vs; by_rule = rule.less at_l; among = contains_first (l + 1) []; fits = fits_flag f; keeps = above (closed_join (o.join a b) (join_level o laws a b ha hb)) (keeps_pop (keeps_pop k)); unchanged = same_here vs sized }
+          hidden (Flag (int_lt u x) ∷ t) (rule.less at_l) (contains_first (l + 1) []) (fits_flag f)
+          (above (closed_join (o.join a b) (join_level o laws a b ha hb)) (keeps_pop (keeps_pop k))) (same_here vs sized)
       hidden_step at_l (leaving.not {a = a}) (sound.more ha ls) vs sized (fits_flag {b = b} {s = t} f) k =
-          record { next = l + 1; stack = Flag (not b) ∷ t; values = vs; by_rule = rule.not at_l; among = contains_first (l + 1) []; fits = fits_flag f; keeps = above (closed_join a ha) (keeps_pop k); unchanged = same_here vs sized }
+          hidden (Flag (not b) ∷ t) (rule.not at_l) (contains_first (l + 1) []) (fits_flag f) (above (closed_join a ha) (keeps_pop k)) (same_here vs sized)
       hidden_step {t = t} at_l (leaving.goto {m = m}) ls vs sized f k =
-          record { next = m; stack = t; values = vs; by_rule = rule.goto at_l; among = contains_first m []; fits = f; keeps = k; unchanged = same_here vs sized }
+          hidden t (rule.goto at_l) (contains_first m []) f k (same_here vs sized)
       hidden_step at_l (leaving.gotof {m = m}) ls vs sized (fits_flag {b = b} {s = t} f) k =
-          record { next = cond b (l + 1) m; stack = t; values = vs; by_rule = rule.gotof at_l; among = either l m b; fits = f; keeps = keeps_pop k; unchanged = same_here vs sized }
+          hidden t (rule.gotof at_l) (either l m b) f (keeps_pop k) (same_here vs sized)
 
 -- The walk from a label of the region, or from the junction at once, to the junction.
-module _ (o : Order) (laws : Laws o) (w : ℕ) (levels : List ℕ) (graded : LevelsOfVariables o levels) (job : ProgramWithClaims) (acc : Accepted o levels job) (from j g : ℕ) (avoids : Region job.code j from (exit job) → ⊥) (raised : (inside : ℕ) → Region job.code j from inside → inside < exit job → Surrounded o job g inside) (closed : o.at_most g w ≡ true → ⊥) where
+module _ (o : Order) (laws : Laws o) (w : ℕ) (levels : List ℕ) (graded : LevelsOfVariables o levels) (job : ProgramWithClaims) (acc : Accepted o levels job)
+    (from j g : ℕ) (avoids : Region job.code j from (exit job) → ⊥)
+    (raised : (inside : ℕ) → Region job.code j from inside → inside < exit job → Surrounded o job g inside) (closed : o.at_most g w ≡ true → ⊥) where
   -- The stack at the junction, where it is a claimed label.
   pub data AtJunction (ps : List Place) (s t : List Value) : Type 0 where
     junction_exit : j ≡ exit job → AtJunction ps s t
@@ -155,7 +183,8 @@ module _ (o : Order) (laws : Laws o) (w : ℕ) (levels : List ℕ) (graded : Lev
   arrived ps qs s t (at_exit e empty) f k = junction_exit e
   arrived ps qs s t (by_claim other has u) f k = junction_claim other has (fits_under u f) (keeps_under o w laws u k)
 
-  pub reach : {k : ℕ} {m e : Machine} → Steps job.code k m e → label_of e ≡ exit job → (l : ℕ) (ps qs : List Place) (s t : List Value) (vs : List ℤ) → m ≡ at l t vs → (l ≡ j) ⊎ Region job.code j from l → Takes o job qs l → Fits qs t → Keeps o w ps s qs t → length vs ≡ 32 → Reached k ps s vs e
+  pub reach : {k : ℕ} {m e : Machine} → Steps job.code k m e → label_of e ≡ exit job → (l : ℕ) (ps qs : List Place) (s t : List Value) (vs : List ℤ) →
+      m ≡ at l t vs → (l ≡ j) ⊎ Region job.code j from l → Takes o job qs l → Fits qs t → Keeps o w ps s qs t → length vs ≡ 32 → Reached k ps s vs e
   reach {k} {m} {e} run halted l ps qs s t vs is (inl arrives) takes f keeps sized =
       record {
         later = k;
@@ -179,10 +208,14 @@ module _ (o : Order) (laws : Laws o) (w : ℕ) (levels : List ℕ) (graded : Lev
       let at_l : fetch job.code l ≡ Some i = slice_get-get_or job.code l Add below in
       let label = at_label o laws levels job acc l c i below has at_l in
       let leveled = acc.leveled l c below has in
-      let step = hidden_step o w laws levels graded job.code c.surrounding l leveled.0 high at_l label.left leveled.1 vs sized (fits_under u f) (keeps_under o w laws u keeps) in
+      let step =
+      hidden_step o w laws levels graded job.code c.surrounding l leveled.0 high at_l label.left leveled.1 vs sized (fits_under u f)
+      (keeps_under o w laws u keeps) in
       let then : n ≡ at step.next step.stack step.values = one_way job.code (at l t vs) n (at step.next step.stack step.values) first step.by_rule in
       let among : Contains (next_labels job.code l) step.next = subst (λ x. Contains (from_instruction x l) step.next) (sym at_l) step.among in
-      let result = reach rest halted step.next ps label.places s step.stack step.values then (onwards step.next (eqb step.next j) refl among) (label.taken step.next step.among) step.fits step.keeps step.unchanged.right in
+      let result =
+      reach rest halted step.next ps label.places s step.stack step.values then (onwards step.next (eqb step.next j) refl among)
+      (label.taken step.next step.among) step.fits step.keeps step.unchanged.right in
       record {
         later = result.later;
         fewer = omega (arith, result.fewer);

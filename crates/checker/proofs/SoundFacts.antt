@@ -86,7 +86,8 @@ code_sound : (bytes : List ℕ) (s : Sizes) (n : ℕ) → All (Sound s.instructi
 unfolding code_below
 code_sound bytes s zero = tt
 code_sound bytes s (suc n) =
-    All-append (Sound s.instructions) (code_below bytes s n) (option_to_list (instruction_at bytes s n)) (code_sound bytes s n) (record_sound s.instructions (instruction_record bytes n))
+    All-append (Sound s.instructions) (code_below bytes s n) (option_to_list (instruction_at bytes s n)) (code_sound bytes s n)
+    (record_sound s.instructions (instruction_record bytes n))
 
 -- One more place under the others.
 one_under : (o : Order) (ps : List Place) (p : Place) → Levels o ps → level p < o.span → Levels o (ps ++ p ∷ [])
@@ -98,7 +99,8 @@ either_level true l = refl
 either_level false l = refl
 
 -- A label that claims passed the test of a claim, not that of an empty record.
-claimed_when : (unclaimed empty like : Bool) (x c : Claimed) → cond unclaimed empty like ≡ true → cond unclaimed None (Some x) ≡ Some c → (like ≡ true) × (x ≡ c)
+claimed_when : (unclaimed empty like : Bool) (x c : Claimed) → cond unclaimed empty like ≡ true → cond unclaimed None (Some x) ≡ Some c →
+    (like ≡ true) × (x ≡ c)
 claimed_when true empty like x c h e = cc
 claimed_when false empty like x c h e = (h, cc)
 
@@ -114,7 +116,8 @@ module _ (o : Order) (bytes : List ℕ) where
   stack_levels zero h = none
   stack_levels (suc n) h =
       let p = and_parts (all_below (like_a_place o.span bytes) n) (like_a_place o.span bytes n) h in
-      let last : stack_in bytes (suc n) ≡ stack_in bytes n ++ place_in bytes n ∷ [] = ap (stack_in bytes) (sym (add-one n)) ∙ map-range_with_len_more (place_in bytes) 0 n n (omega arith) in
+      let last : stack_in bytes (suc n) ≡ stack_in bytes n ++ place_in bytes n ∷ [] =
+      ap (stack_in bytes) (sym (add-one n)) ∙ map-range_with_len_more (place_in bytes) 0 n n (omega arith) in
       subst (Levels o) (sym last) (one_under o (stack_in bytes n) (place_in bytes n) (stack_levels n p.0) (place_level n p.1))
 
   claim_levels : (places : ℕ) (c : Claimed) → like_a_claim o.span places bytes ≡ true → claim_in bytes ≡ Some c → (c.surrounding < o.span) × Levels o c.stack
@@ -123,7 +126,9 @@ module _ (o : Order) (bytes : List ℕ) where
       let rest = zeros (drop (4 + 3 * depth) bytes) in
       let stacked = all_below (like_a_place o.span bytes) depth in
       let within = ltb (two bytes 2) o.span in
-      let k = claimed_when (eqb (get_or bytes 0 0) 0) (zeros bytes) (eqb (get_or bytes 0 0) 1 && (leb depth places && (within && (stacked && rest)))) (record { surrounding = two bytes 2; stack = stack_in bytes depth }) c h e in
+      let k =
+      claimed_when (eqb (get_or bytes 0 0) 0) (zeros bytes) (eqb (get_or bytes 0 0) 1 && (leb depth places && (within && (stacked && rest))))
+      (record { surrounding = two bytes 2; stack = stack_in bytes depth }) c h e in
       let p = and_parts (eqb (get_or bytes 0 0) 1) (leb depth places && (within && (stacked && rest))) k.0 in
       let q = and_parts (leb depth places) (within && (stacked && rest)) p.1 in
       let r = and_parts within (stacked && rest) q.1 in
@@ -143,5 +148,6 @@ module _ (o : Order) (bytes : List ℕ) (s : Sizes) (d : Decodes o bytes s) wher
   pub fetched_sound : (label : ℕ) (i : Instruction) → fetch (code_below bytes s s.instructions) label ≡ Some i → Sound s.instructions i
   fetched_sound label i e = all_fetched s.instructions (code_below bytes s s.instructions) (code_sound bytes s s.instructions) label i e
 
-  pub claims_are_levels : (label : ℕ) (c : Claimed) → label < s.instructions → claim_in (claim_record bytes s label) ≡ Some c → (c.surrounding < o.span) × Levels o c.stack
+  pub claims_are_levels : (label : ℕ) (c : Claimed) → label < s.instructions → claim_in (claim_record bytes s label) ≡ Some c →
+      (c.surrounding < o.span) × Levels o c.stack
   claims_are_levels label c h e = claim_levels o (claim_record bytes s label) s.places c (d.claims label h) e

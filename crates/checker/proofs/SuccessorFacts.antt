@@ -12,8 +12,12 @@ use Rattle.std.proofs.lemmas.Iterator.Adapters.{YieldsList-from_flatten, YieldsL
 use Rattle.std.proofs.lemmas.Iterator.Consumers.{YieldsList-from_shown}
 
 -- of an array of options, those that there are
-pub YieldsList-from_options : {n : ℕ} {s : Flatten (IntoIter (Option ℕ) n) (Once ℕ)} {becomes : Option ℕ → Once ℕ → Type 0} (xs : List (Option ℕ)) → array_into_iter_items (flatten_source s) ≡ xs → flatten_front s ≡ None → flatten_back s ≡ None → flatten_done s ≡ false → ((x : Option ℕ) (j : Once ℕ) → becomes x j → once_item j ≡ x) → YieldsList (flatten_steps array_steps becomes once_steps) (λ x. x) s (flat_map option_to_list xs)
+pub YieldsList-from_options : {n : ℕ} {s : Flatten (IntoIter (Option ℕ) n) (Once ℕ)} {becomes : Option ℕ → Once ℕ → Type 0} (xs : List (Option ℕ)) →
+    array_into_iter_items (flatten_source s) ≡ xs → flatten_front s ≡ None → flatten_back s ≡ None → flatten_done s ≡ false →
+    ((x : Option ℕ) (j : Once ℕ) → becomes x j → once_item j ≡ x) →
+    YieldsList (flatten_steps array_steps becomes once_steps) (λ x. x) s (flat_map option_to_list xs)
 YieldsList-from_options {n} {s} {becomes} xs items front back done opens =
     YieldsList-from_flatten becomes once_steps (λ x. x) option_to_list (λ x j b. YieldsList-from_once x (opens x j b))
-    (subst (YieldsList array_steps (λ x. x) (flatten_source s)) items (YieldsList-from_shown array_steps (λ x. x) array_into_iter_items (λ t u h. h.0) (λ t x u h. h) (flatten_source s)))
+    (subst (YieldsList array_steps (λ x. x) (flatten_source s)) items
+    (YieldsList-from_shown array_steps (λ x. x) array_into_iter_items (λ t u h. h.0) (λ t x u h. h) (flatten_source s)))
     front back done

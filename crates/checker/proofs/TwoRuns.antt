@@ -29,7 +29,8 @@ use Rattle.checker.specs.Flow.{SameWhenOpen, LevelsOfVariables, KeepsClosed}
 use Rattle.checker.proofs.OpenFacts.{same_then, same_back}
 use Rattle.checker.proofs.Typing.{Fits, either, rule_within, one_way, Accepted, at_label}
 
-module _ (o : Order) (laws : Laws o) (w : ℕ) (levels : List ℕ) (graded : LevelsOfVariables o levels) (job : ProgramWithClaims) (acc : Accepted o levels job) where
+module _ (o : Order) (laws : Laws o) (w : ℕ) (levels : List ℕ) (graded : LevelsOfVariables o levels) (job : ProgramWithClaims)
+    (acc : Accepted o levels job) where
   -- Two runs at one label whose stacks agree by its claim, or at the exit.
   data PairAt (l : ℕ) (s t : List Value) : Type 0 where
     pair_exit : l ≡ exit job → PairAt l s t
@@ -44,7 +45,8 @@ module _ (o : Order) (laws : Laws o) (w : ℕ) (levels : List ℕ) (graded : Lev
   under_itself (IntegerAt a ∷ ps) (sound.more h ls) = integer (laws.reflexive a h) (under_itself ps ls)
   under_itself (BooleanAt a ∷ ps) (sound.more h ls) = boolean (laws.reflexive a h) (under_itself ps ls)
 
-  module _ (from j g : ℕ) (avoids : Region job.code j from (exit job) → ⊥) (raised : (inside : ℕ) → Region job.code j from inside → inside < exit job → Surrounded o job g inside) (closed : o.at_most g w ≡ true → ⊥) where
+  module _ (from j g : ℕ) (avoids : Region job.code j from (exit job) → ⊥)
+      (raised : (inside : ℕ) → Region job.code j from inside → inside < exit job → Surrounded o job g inside) (closed : o.at_most g w ≡ true → ⊥) where
     abbrev Junction : List Place → List Value → List Value → Type 0
     Junction ps s t = AtJunction o laws w levels graded job acc from j g avoids raised closed ps s t
 
@@ -72,18 +74,29 @@ module _ (o : Order) (laws : Laws o) (w : ℕ) (levels : List ℕ) (graded : Lev
     pair : PairAt junction left right
 
   module _ (l : ℕ) (c : Claimed) (below : l < exit job) (has : job.claim l ≡ Some c) where
-    rejoined : {i : Instruction} {ps qs : List Place} {s t : List Value} → fetch job.code l ≡ Some i → c.stack ≡ ps → ((next : ℕ) → Contains (successors i l) next → Takes o job qs next) → Apart o w i ps qs s t → Levels o ps → (vs ws : List ℤ) → length vs ≡ 32 → length ws ≡ 32 → {j k : ℕ} {m n e f : Machine} → job.code ⊢ at l s vs ⟶ m → job.code ⊢ at l t ws ⟶ n → Steps job.code j m e → Steps job.code k n f → label_of e ≡ exit job → label_of f ≡ exit job → Rejoined j vs ws e f
-    rejoined at_l stack_is taken (apart {m = target} {j = junction} {g = g} {b = b} {d = d} {ps = ps} {s = s} {t = t} closed r) (sound.more hg ls) vs ws sized_left sized_right {m = m} {n = n} first second run_left run_right halts_left halts_right =
+    rejoined : {i : Instruction} {ps qs : List Place} {s t : List Value} → fetch job.code l ≡ Some i → c.stack ≡ ps →
+        ((next : ℕ) → Contains (successors i l) next → Takes o job qs next) → Apart o w i ps qs s t → Levels o ps → (vs ws : List ℤ) → length vs ≡ 32 →
+        length ws ≡ 32 → {j k : ℕ} {m n e f : Machine} → job.code ⊢ at l s vs ⟶ m → job.code ⊢ at l t ws ⟶ n → Steps job.code j m e → Steps job.code k n f →
+        label_of e ≡ exit job → label_of f ≡ exit job → Rejoined j vs ws e f
+    rejoined at_l stack_is taken (apart {m = target} {j = junction} {g = g} {b = b} {d = d} {ps = ps} {s = s} {t = t} closed r)
+        (sound.more hg ls) vs ws sized_left sized_right {m = m} {n = n} first second run_left run_right halts_left halts_right =
         let branch = acc.well.branches l below c (GotoF target junction) has at_l in
         let g_is : level (get_or c.stack 0 (IntegerAt 0)) ≡ g = ap (λ qs. level (get_or qs 0 (IntegerAt 0))) stack_is in
-        let raised : (inside : ℕ) → Region job.code junction l inside → inside < exit job → Surrounded o job g inside = λ inside region lt. subst (λ x. Surrounded o job x inside) g_is (branch.raised target junction inside refl region lt) in
+        let raised : (inside : ℕ) → Region job.code junction l inside → inside < exit job → Surrounded o job g inside =
+        λ inside region lt. subst (λ x. Surrounded o job x inside) g_is (branch.raised target junction inside refl region lt) in
         let avoids = branch.avoids target junction refl in
         let keeps_left = low (kept (under_itself ps ls)) in
         let keeps_right = low (kept (under_itself ps ls)) in
         let goes_left = one_way job.code (at l (Flag b ∷ s) vs) m (at (cond b (l + 1) target) s vs) first (rule.gotof at_l) in
         let goes_right = one_way job.code (at l (Flag d ∷ t) ws) n (at (cond d (l + 1) target) t ws) second (rule.gotof at_l) in
-        let left = reach o laws w levels graded job acc l junction g avoids raised closed run_left halts_left (cond b (l + 1) target) ps ps s s vs goes_left (entered (cond b (l + 1) target) (eqb (cond b (l + 1) target) junction) refl (among b)) (taken (cond b (l + 1) target) (either l target b)) (left_fits o w r) keeps_left sized_left in
-        let right = reach o laws w levels graded job acc l junction g avoids raised closed run_right halts_right (cond d (l + 1) target) ps ps t t ws goes_right (entered (cond d (l + 1) target) (eqb (cond d (l + 1) target) junction) refl (among d)) (taken (cond d (l + 1) target) (either l target d)) (right_fits o w r) keeps_right sized_right in
+        let left =
+        reach o laws w levels graded job acc l junction g avoids raised closed run_left halts_left (cond b (l + 1) target) ps ps s s vs goes_left
+        (entered (cond b (l + 1) target) (eqb (cond b (l + 1) target) junction) refl (among b)) (taken (cond b (l + 1) target) (either l target b))
+        (left_fits o w r) keeps_left sized_left in
+        let right =
+        reach o laws w levels graded job acc l junction g avoids raised closed run_right halts_right (cond d (l + 1) target) ps ps t t ws goes_right
+        (entered (cond d (l + 1) target) (eqb (cond d (l + 1) target) junction) refl (among d)) (taken (cond d (l + 1) target) (either l target d))
+        (right_fits o w r) keeps_right sized_right in
         record {
           junction = junction;
           left_later = left.later;
@@ -110,13 +123,20 @@ module _ (o : Order) (laws : Laws o) (w : ℕ) (levels : List ℕ) (graded : Lev
   halted_there : (l : ℕ) (s : List Value) (vs : List ℤ) (m n : Machine) → m ≡ at l s vs → l ≡ exit job → job.code ⊢ m ⟶ n → ⊥
   halted_there l s vs m n is e r = let below = rule_within job.code l s vs n (subst (λ q. job.code ⊢ q ⟶ n) is r) in absurd (omega arith)
 
-  both_halted : (fuel : ℕ) {j k : ℕ} {m n e f : Machine} → j ≤ fuel → Steps job.code j m e → Steps job.code k n f → label_of e ≡ exit job → label_of f ≡ exit job → (l : ℕ) (s t : List Value) (vs ws : List ℤ) → m ≡ at l s vs → n ≡ at l t ws → PairAt l s t → SameWhenOpen o levels w vs ws → SameWhenOpen o levels w (values_of e) (values_of f)
+  both_halted : (fuel : ℕ) {j k : ℕ} {m n e f : Machine} → j ≤ fuel → Steps job.code j m e → Steps job.code k n f → label_of e ≡ exit job →
+      label_of f ≡ exit job → (l : ℕ) (s t : List Value) (vs ws : List ℤ) → m ≡ at l s vs → n ≡ at l t ws → PairAt l s t → SameWhenOpen o levels w vs ws →
+      SameWhenOpen o levels w (values_of e) (values_of f)
   both_halted fuel enough steps.none steps.none halts_left halts_right l s t vs ws left right pair open_same = rw (left, right) open_same
-  both_halted fuel {m = m} enough steps.none (steps.more {m = n} {n = n'} r rest) halts_left halts_right l s t vs ws left right pair open_same = absurd (halted_there l t ws n n' right (ap label_of (sym left) ∙ halts_left) r)
-  both_halted fuel {n = n} enough (steps.more {m = m} {n = m'} r rest) steps.none halts_left halts_right l s t vs ws left right pair open_same = absurd (halted_there l s vs m m' left (ap label_of (sym right) ∙ halts_right) r)
-  both_halted fuel enough (steps.more {m = m} {n = m'} q rest) (steps.more r rest') halts_left halts_right l s t vs ws left right (pair_exit e) open_same = absurd (halted_there l s vs m m' left e q)
-  both_halted zero enough (steps.more q rest) (steps.more r rest') halts_left halts_right l s t vs ws left right (pair_claim other has agree) open_same = absurd (omega arith)
-  both_halted (suc fuel) {e = e} {f = f} enough (steps.more {k = j} {m = m} {n = m'} q rest) (steps.more {k = k} {m = n} {n = n'} r rest') halts_left halts_right l s t vs ws left right (pair_claim {c = c} other has agree) open_same =
+  both_halted fuel {m = m} enough steps.none (steps.more {m = n} {n = n'} r rest) halts_left halts_right l s t vs ws left right pair open_same =
+      absurd (halted_there l t ws n n' right (ap label_of (sym left) ∙ halts_left) r)
+  both_halted fuel {n = n} enough (steps.more {m = m} {n = m'} r rest) steps.none halts_left halts_right l s t vs ws left right pair open_same =
+      absurd (halted_there l s vs m m' left (ap label_of (sym right) ∙ halts_right) r)
+  both_halted fuel enough (steps.more {m = m} {n = m'} q rest) (steps.more r rest') halts_left halts_right l s t vs ws left right (pair_exit e) open_same =
+      absurd (halted_there l s vs m m' left e q)
+  both_halted zero enough (steps.more q rest) (steps.more r rest') halts_left halts_right l s t vs ws left right (pair_claim other has agree) open_same =
+      absurd (omega arith)
+  both_halted (suc fuel) {e = e} {f = f} enough (steps.more {k = j} {m = m} {n = m'} q rest)
+      (steps.more {k = k} {m = n} {n = n'} r rest') halts_left halts_right l s t vs ws left right (pair_claim {c = c} other has agree) open_same =
       let first : job.code ⊢ at l s vs ⟶ m' = subst (λ x. job.code ⊢ x ⟶ m') left q in
       let second : job.code ⊢ at l t ws ⟶ n' = subst (λ x. job.code ⊢ x ⟶ n') right r in
       let below = rule_within job.code l s vs m' first in
@@ -128,11 +148,15 @@ module _ (o : Order) (laws : Laws o) (w : ℕ) (levels : List ℕ) (graded : Lev
       (λ both.
       let next_left = one_way job.code (at l s vs) m' (at both.next both.left both.left_values) first both.left_rule in
       let next_right = one_way job.code (at l t ws) n' (at both.next both.right both.right_values) second both.right_rule in
-      both_halted fuel (omega arith) rest rest' halts_left halts_right both.next both.left both.right both.left_values both.right_values next_left next_right (pair_arrived (label.taken both.next both.among) both.agree) both.opened)
+      both_halted fuel (omega arith) rest rest' halts_left halts_right both.next both.left both.right both.left_values both.right_values next_left next_right
+      (pair_arrived (label.taken both.next both.among) both.agree) both.opened)
       (λ parts.
-      let again = rejoined l c below has at_l refl label.taken parts leveled.1 vs ws open_same.left open_same.right first second rest rest' halts_left halts_right in
+      let again =
+      rejoined l c below has at_l refl label.taken parts leveled.1 vs ws open_same.left open_same.right first second rest rest' halts_left halts_right in
       let fewer = again.fewer in
-      both_halted fuel (omega arith) again.left_goes again.right_goes halts_left halts_right again.junction again.left again.right again.left_values again.right_values refl refl again.pair (same_then (same_back again.left_unchanged) (same_then open_same again.right_unchanged)))
+      let same = same_then (same_back again.left_unchanged) (same_then open_same again.right_unchanged) in
+      both_halted fuel (omega arith) again.left_goes again.right_goes halts_left halts_right again.junction
+      again.left again.right again.left_values again.right_values refl refl again.pair same)
       (together o w laws levels graded job.code c.surrounding l leveled.0 at_l label.left leveled.1 agree open_same)
 
   starts : PairAt 0 [] []
@@ -142,5 +166,7 @@ module _ (o : Order) (laws : Laws o) (w : ℕ) (levels : List ℕ) (graded : Lev
       by c has empty (inl some) = pair_claim (λ e. absurd (omega arith)) has (subst (λ ps. Agree o w ps [] []) (sym empty) same_none)
       by c has empty (inr nothing_there) = pair_exit (omega arith)
 
-pub keeps_closed : (o : Order) (laws : Laws o) (levels : List ℕ) → LevelsOfVariables o levels → (job : ProgramWithClaims) → Accepted o levels job → KeepsClosed o levels job.code
-keeps_closed o laws levels graded job acc w vs ws alike j k s t vs' ws' left right = both_halted o laws w levels graded job acc j (omega arith) left right refl refl 0 [] [] vs ws refl refl (starts o laws w levels graded job acc) alike
+pub keeps_closed : (o : Order) (laws : Laws o) (levels : List ℕ) → LevelsOfVariables o levels → (job : ProgramWithClaims) → Accepted o levels job →
+    KeepsClosed o levels job.code
+keeps_closed o laws levels graded job acc w vs ws alike j k s t vs' ws' left right =
+    both_halted o laws w levels graded job acc j (omega arith) left right refl refl 0 [] [] vs ws refl refl (starts o laws w levels graded job acc) alike

@@ -1,6 +1,6 @@
 -- At a claimed label the stack has the claim's depth and kinds, and a step keeps this; so no run of an accepted job
 -- faults. Assumes the laws of the order.
-use Rattle.std.proofs.Common.{◌≡◌, ℕ, ◌+◌, ◌<◌, ◌≤◌, Bool, true, false, cond, not, ◌⊎◌, List, [], ◌∷◌, length, get_or, set, ℤ, pos, int_lt, Some, sym, refl, ap, ◌∙◌, subst, inl, inr, ⊎_elim, arith}
+use Rattle.std.proofs.Common.{◌≡◌, ℕ, ◌+◌, ◌<◌, ◌≤◌, Bool, true, false, cond, not, ◌⊎◌, List, [], ◌∷◌, length, get_or, ℤ, pos, int_lt, Some, sym, refl, ap, ◌∙◌, subst, inl, inr, ⊎_elim, arith}
 use Rattle.std.specs.List.{Contains}
 use Rattle.checker.proofs.ContainsFacts.{contains_first, contains_rest, contains_cases, contains_none}
 use Rattle.std.proofs.lemmas.Bool.{cases_lt}
@@ -33,7 +33,8 @@ use Rattle.checker.proofs.Leaves.{Leaves, kept_leaves}
 -- The rules apply only below the exit, and leave only one way.
 module _ (code : List Instruction) where
   pub rule_within : (l : ℕ) (s : List Value) (vs : List ℤ) (n : Machine) → code ⊢ at l s vs ⟶ n → l < length code
-  rule_within l s vs n r = ⊎_elim (λ h. h) (λ h. absurd (none-some n (sym (ap (λ i. perform i l s vs) (slice_get_past code l h)) ∙ rule_steps code r))) (cases_lt l (length code))
+  rule_within l s vs n r =
+      ⊎_elim (λ h. h) (λ h. absurd (none-some n (sym (ap (λ i. perform i l s vs) (slice_get_past code l h)) ∙ rule_steps code r))) (cases_lt l (length code))
 
   pub one_way : (m n o : Machine) → code ⊢ m ⟶ n → code ⊢ m ⟶ o → n ≡ o
   one_way m n o r q = same_Some _ _ (sym (rule_steps code r) ∙ rule_steps code q)
@@ -68,17 +69,40 @@ either l m true = contains_first (l + 1) (m ∷ [])
 either l m false = contains_rest (l + 1) (m ∷ []) m (contains_first m [])
 
 module _ (o : Order) (levels : List ℕ) (code : List Instruction) (p l : ℕ) where
-  goes : {i : Instruction} {ps qs : List Place} → fetch code l ≡ Some i → Leaves o levels p i ps qs → {s : List Value} (vs : List ℤ) → Fits ps s → Goes code i l s vs qs
-  goes at_l (leaving.load {v = v} {ps = ps} small room) {s} vs f = record { next = l + 1; stack = Int (get_or vs v (pos 0)) ∷ s; values = vs; by_rule = rule.load at_l small (omega (arith, fits_length f)); among = contains_first (l + 1) []; fits = fits_int f }
-  goes at_l (leaving.store {v = v} small up) vs (fits_int {x = t} {s = s} f) = record { next = l + 1; stack = s; values = set vs v t; by_rule = rule.store at_l small; among = contains_first (l + 1) []; fits = f }
-  goes at_l (leaving.push {x = x} room) {s} vs f = record { next = l + 1; stack = Int x ∷ s; values = vs; by_rule = rule.push at_l (omega (arith, fits_length f)); among = contains_first (l + 1) []; fits = fits_int f }
-  goes at_l leaving.add vs (fits_int {x = t} (fits_int {x = u} {s = s} f)) = record { next = l + 1; stack = Int (sum u t) ∷ s; values = vs; by_rule = rule.add at_l; among = contains_first (l + 1) []; fits = fits_int f }
-  goes at_l leaving.sub vs (fits_int {x = t} (fits_int {x = u} {s = s} f)) = record { next = l + 1; stack = Int (difference u t) ∷ s; values = vs; by_rule = rule.sub at_l; among = contains_first (l + 1) []; fits = fits_int f }
-  goes at_l leaving.eq vs (fits_int {x = t} (fits_int {x = u} {s = s} f)) = record { next = l + 1; stack = Flag (int_eq u t) ∷ s; values = vs; by_rule = rule.eq at_l; among = contains_first (l + 1) []; fits = fits_flag f }
-  goes at_l leaving.less vs (fits_int {x = t} (fits_int {x = u} {s = s} f)) = record { next = l + 1; stack = Flag (int_lt u t) ∷ s; values = vs; by_rule = rule.less at_l; among = contains_first (l + 1) []; fits = fits_flag f }
-  goes at_l leaving.not vs (fits_flag {b = b} {s = s} f) = record { next = l + 1; stack = Flag (not b) ∷ s; values = vs; by_rule = rule.not at_l; among = contains_first (l + 1) []; fits = fits_flag f }
-  goes at_l (leaving.goto {m = m}) {s} vs f = record { next = m; stack = s; values = vs; by_rule = rule.goto at_l; among = contains_first m []; fits = f }
-  goes at_l (leaving.gotof {m = m}) vs (fits_flag {b = b} {s = s} f) = record { next = cond b (l + 1) m; stack = s; values = vs; by_rule = rule.gotof at_l; among = either l m b; fits = f }
+  steps_to : {i : Instruction} {s : List Value} {vs : List ℤ} {qs : List Place} {next : ℕ} {values : List ℤ} →
+      (stack : List Value) → code ⊢ at l s vs ⟶ at next stack values → Contains (successors i l) next → Fits qs stack → Goes code i l s vs qs
+  steps_to {next = next} {values = values} stack by_rule among fits =
+      record {
+        next = next;
+        stack = stack;
+        values = values;
+        by_rule = by_rule;
+        among = among;
+        fits = fits;
+      }
+
+  goes : {i : Instruction} {ps qs : List Place} → fetch code l ≡ Some i → Leaves o levels p i ps qs → {s : List Value} (vs : List ℤ) → Fits ps s →
+      Goes code i l s vs qs
+  goes at_l (leaving.load {v = v} {ps = ps} small room) {s} vs f =
+      steps_to (Int (get_or vs v (pos 0)) ∷ s) (rule.load at_l small (omega (arith, fits_length f))) (contains_first (l + 1) []) (fits_int f)
+  goes at_l (leaving.store {v = v} small up) vs (fits_int {x = t} {s = s} f) =
+      steps_to s (rule.store at_l small) (contains_first (l + 1) []) f
+  goes at_l (leaving.push {x = x} room) {s} vs f =
+      steps_to (Int x ∷ s) (rule.push at_l (omega (arith, fits_length f))) (contains_first (l + 1) []) (fits_int f)
+  goes at_l leaving.add vs (fits_int {x = t} (fits_int {x = u} {s = s} f)) =
+      steps_to (Int (sum u t) ∷ s) (rule.add at_l) (contains_first (l + 1) []) (fits_int f)
+  goes at_l leaving.sub vs (fits_int {x = t} (fits_int {x = u} {s = s} f)) =
+      steps_to (Int (difference u t) ∷ s) (rule.sub at_l) (contains_first (l + 1) []) (fits_int f)
+  goes at_l leaving.eq vs (fits_int {x = t} (fits_int {x = u} {s = s} f)) =
+      steps_to (Flag (int_eq u t) ∷ s) (rule.eq at_l) (contains_first (l + 1) []) (fits_flag f)
+  goes at_l leaving.less vs (fits_int {x = t} (fits_int {x = u} {s = s} f)) =
+      steps_to (Flag (int_lt u t) ∷ s) (rule.less at_l) (contains_first (l + 1) []) (fits_flag f)
+  goes at_l leaving.not vs (fits_flag {b = b} {s = s} f) =
+      steps_to (Flag (not b) ∷ s) (rule.not at_l) (contains_first (l + 1) []) (fits_flag f)
+  goes at_l (leaving.goto {m = m}) {s} vs f =
+      steps_to s (rule.goto at_l) (contains_first m []) f
+  goes at_l (leaving.gotof {m = m}) vs (fits_flag {b = b} {s = s} f) =
+      steps_to s (rule.gotof at_l) (either l m b) f
 
 -- What acceptance tells of a job.
 pub record Accepted (o : Order) (levels : List ℕ) (job : ProgramWithClaims) : Type 0 where
@@ -143,7 +167,8 @@ module _ (o : Order) (laws : Laws o) (levels : List ℕ) (job : ProgramWithClaim
 
   stays_typed : {k : ℕ} {m n : Machine} → Steps job.code k m n → Typed m → Typed n
   stays_typed steps.none t = t
-  stays_typed {m = m} (steps.more {n = n} r rest) t = stays_typed rest (⊎_elim (λ e. absurd (at_the_exit m n r e)) (λ g. subst Typed (one_way job.code m g.0 n g.1 r) g.2) (typed_goes m t))
+  stays_typed {m = m} (steps.more {n = n} r rest) t =
+      stays_typed rest (⊎_elim (λ e. absurd (at_the_exit m n r e)) (λ g. subst Typed (one_way job.code m g.0 n g.1 r) g.2) (typed_goes m t))
     where
       at_the_exit : (m n : Machine) → job.code ⊢ m ⟶ n → label_of m ≡ exit job → ⊥
       at_the_exit (at l s vs) n r e = let lt = rule_within job.code l s vs n r in absurd (omega arith)

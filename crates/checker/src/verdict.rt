@@ -119,17 +119,20 @@ fn verdict_on_bytes<L: Lattice>(
     Ok(program)
 }
 
-/// Checks a job over a lattice and the levels of the 32 variables: its program where every rule of claims holds, or the
-/// first fault. The order of the rules is that of their numbers; within a rule, that of the labels.
+/// Checks a job over a lattice and the levels of the 32 variables: its program where every rule holds, or the first fault.
+/// First come the bytes and the records, then the entry, then the rules of labels, label by label, then those of branches.
 pub fn check<L: Lattice>(lattice: &L, levels: &[u16], bytes: &[u8]) -> Result<Program, MountFault>
     ensures answers_the_verdict { mount_answer result
         ≡ verdict_of (L.Lattice.order lattice.now) levels.now bytes.now }
     ensures program_is_what_the_bytes_say { IfOk result
         (λ p. p ≡ decoded_code bytes.now (opening bytes.now)) }
-    ensures accepts_exactly_the_mountable { Judged (L.Lattice.order lattice.now) levels.now bytes.now }
+    ensures accepts_exactly_the_mountable { Judged
+        (L.Lattice.order lattice.now) levels.now bytes.now }
     ensures marks_are_the_region { MarksAreTheRegion }
-    ensures accepted_jobs_never_fault { AcceptedJobsNeverFault (L.Lattice.order lattice.now) levels.now bytes.now }
-    ensures accepted_jobs_keep_closed { AcceptedJobsKeepClosed (L.Lattice.order lattice.now) levels.now bytes.now }
+    ensures accepted_jobs_never_fault { AcceptedJobsNeverFault
+        (L.Lattice.order lattice.now) levels.now bytes.now }
+    ensures accepted_jobs_keep_closed { AcceptedJobsKeepClosed
+        (L.Lattice.order lattice.now) levels.now bytes.now }
 {
     verdict_on_bytes(lattice, levels, bytes)
 }

@@ -47,7 +47,10 @@ all_of_range f (suc n) =
 
 -- what `all` answers of the numbers below n, where its closure answers by the test and stays as it is
 module _ {F : Type 0} {g : Mut F (ℕ × Unit {0}) Bool} {s : Range ℕ} (test : ℕ → Bool) (n : ℕ) {f : F} where
-  pub all_in_range : {r : Bool} {u : Range ℕ} → ChecksAll nat_range_steps g s f r u → s ≡ record { start = 0; end = n } → ((x : ℕ) (b : Bool) (q : F) → Called g f (x, tt) b q → (q ≡ f) × (b ≡ test x)) → r ≡ all_below test n
+  pub all_in_range : {r : Bool} {u : Range ℕ} → ChecksAll nat_range_steps g s f r u → s ≡ record {
+    start = 0;
+    end = n;
+  } → ((x : ℕ) (b : Bool) (q : F) → Called g f (x, tt) b q → (q ≡ f) × (b ≡ test x)) → r ≡ all_below test n
   all_in_range {r} {u} ran e told = all_from_yields_List test u f r ran (YieldsList-from_range 0 n n e (omega arith)) told ∙ all_of_range test n
 
 -- of the elements of a list
@@ -55,4 +58,5 @@ pub all_taken : (p : ℕ → Bool) (xs : List ℕ) (n : ℕ) → n ≤ length xs
 unfolding all_below
 all_taken p xs zero h = refl
 all_taken p xs (suc n) h =
-    ap (λ m. list_all p (take m xs)) (sym (add-one n)) ∙ list_all_more p xs n 0 (omega arith) ∙ ap (λ b. b && p (get_or xs n 0)) (all_taken p xs n (omega arith))
+    ap (λ m. list_all p (take m xs)) (sym (add-one n)) ∙ list_all_more p xs n 0 (omega arith)
+    ∙ ap (λ b. b && p (get_or xs n 0)) (all_taken p xs n (omega arith))

@@ -121,7 +121,8 @@ impl Job<'_> {
     pub fn claim(&self, label: u16) -> Option<Claim>
         ensures claim_is_what_the_record_says { claimed self.now result
             ≡ claim_in (claim_record self.now.bytes.now (sizes self.now) label) }
-        ensures claim_holds_the_records_place { IfSome result (λ c. c.record_place ≡ claim_place (sizes self.now) label) }
+        ensures claim_holds_the_records_place { IfSome result
+            (λ c. c.record_place ≡ claim_place (sizes self.now) label) }
     {
         let (record_place, record) = self.claim_record(label);
         match byte(record, 0) {
@@ -137,7 +138,8 @@ impl Job<'_> {
     /// A stack place of a claim of this job, the top being 0; an integer of level 0 at the claim's depth and past it.
     #[tactic(auto, using(crate::proofs::Stacks::stack_within, crate::proofs::Stacks::stack_past))]
     pub fn stack_place(&self, claim: Claim, place: u16) -> Place
-        ensures place_is_what_the_claim_says { result ≡ slice_index_or (claim_says self.now claim).stack place (IntegerAt 0) }
+        ensures place_is_what_the_claim_says { result
+            ≡ slice_index_or (claim_says self.now claim).stack place (IntegerAt 0) }
     {
         if place < u16::from(claim.depth) {
             place_in(self.record_at(claim.record_place), place)

@@ -62,7 +62,8 @@ impl<'a> Job<'a> {
     /// The claim record of a label, with its byte place; as much of it as the job has.
     pub fn claim_record(&self, label: u16) -> (usize, &'a [u8])
         ensures place_is_the_records { result.0 ≡ claim_place (sizes self.now) label }
-        ensures bytes_are_the_records { result.1.now ≡ claim_record self.now.bytes.now (sizes self.now) label }
+        ensures bytes_are_the_records { result.1.now
+            ≡ claim_record self.now.bytes.now (sizes self.now) label }
     {
         let at = 4 + 6 * usize::from(self.instructions) + usize::from(label) * self.claim_length();
         (at, self.record_at(at))

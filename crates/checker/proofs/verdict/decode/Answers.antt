@@ -41,5 +41,9 @@ returns-in_err-instruction-clause-answers_the_first_fault c =
     let s = sizes job in
     let n = c.loop-label.label-counter in
     let p = err_from_is_err_and c.from_residual.result c.from_residual.ensures.1 in
-    let of = of_record c.instruction.result c.map_err.result c.in_err-instruction.field-0.0 n c.map_err.ensures.cases c.in_err-instruction.was (λ fault g k. search rules) in
-    rw (p.1, p.2, of.2) (first_found (instruction_rule bytes s) n s.instructions _ c.loop-label.invariant.0 (not_read (instruction_at bytes s n) of.0 (of.1 ∙ c.instruction.ensures.instruction_is_what_the_record_says)) (record_is_some of.0) (omega (arith, c.exit-label-end.ensures.is_the_number_of_instructions)))
+    let of =
+    of_record c.instruction.result c.map_err.result c.in_err-instruction.field-0.0 n c.map_err.ensures.cases c.in_err-instruction.was
+    (λ fault g k. search rules) in
+    rw (p.1, p.2, of.2) (first_found (instruction_rule bytes s) n s.instructions _ c.loop-label.invariant.0
+    (not_read (instruction_at bytes s n) of.0 (of.1 ∙ c.instruction.ensures.instruction_is_what_the_record_says)) (record_is_some of.0)
+    (omega (arith, c.exit-label-end.ensures.is_the_number_of_instructions)))

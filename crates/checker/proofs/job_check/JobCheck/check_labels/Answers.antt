@@ -13,4 +13,5 @@ returns-in-Err g c =
     let number = rule_number c.in-Err.rule in
     let broke : number ≡ rule n = ap rule_answer (sym c.in-Err.is) ∙ c.check_label.ensures in
     ap (λ label. (number, label)) c.from.ensures
-    ∙ first_found rule n (exit (job_of self)) number c.loop-label.invariant broke (rule_is_some c.in-Err.rule) (omega (arith, c.loop-label-test.true, c.len-label-end.ensures.counts_the_instructions))
+    ∙ first_found rule n (exit (job_of self)) number c.loop-label.invariant broke (rule_is_some c.in-Err.rule)
+    (omega (arith, c.loop-label-test.true, c.len-label-end.ensures.counts_the_instructions))
