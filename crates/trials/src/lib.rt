@@ -1,9 +1,10 @@
-//! Trials of mount: at least one job for every answer, and the ends of a job's sizes.
+//! Trials of mount: at least one job for every answer, the ends of a job's sizes, and the words of a refusal.
 #![tactic(auto)]
 
 #[cfg(test)]
 mod tests {
-    use checker::{check, mount_answer};
+    use checker::{MountFault, Rule, check, mount_answer};
+    use job::{ReadFault, RecordFault};
     use lattice::Ladder;
     use std::test::Fail;
 
@@ -26,6 +27,18 @@ mod tests {
         let mut levels = [3; 32];
         levels[0] = 0;
         mount_answer(&check(&Ladder::new(16), &levels, bytes))
+    }
+
+    // The words of a fault: of the bytes, of a record, of a rule.
+    #[test]
+    fn words(rt: HostRuntime) -> Result<(), Fail> {
+        let few = format!(in rt.alloc(); "{}", MountFault::Read(ReadFault::TooShort))?;
+        assert!(rt; few.as_str() == "fewer than four bytes");
+        let record = format!(in rt.alloc(); "{}", MountFault::Record(RecordFault::Instruction, 5))?;
+        assert!(rt; record.as_str() == "label 5: the instruction record is unlike its description");
+        let rule = format!(in rt.alloc(); "{}", MountFault::Claims(Rule::Stack, 5))?;
+        assert!(rt; rule.as_str() == "label 5: the stack would fault");
+        Ok(())
     }
 
     #[test]
