@@ -22,18 +22,19 @@ abbrev pub natural : ℤ → ℕ
 natural (pos n) = n
 natural (negsuc n) = 0
 
--- The instruction of an operation, a junction byte and an operand.
+-- The instruction of an operation, a junction byte and an operand. All but gotoF have the junction byte 0.
 abbrev pub decoded : ℕ → ℕ → ℕ → ℤ → Option Instruction
 decoded exit operation junction operand =
-    if operation == 1 then then_some (junction == 0 && up_to 31 operand) (Load (natural operand))
-    else if operation == 2 then then_some (junction == 0 && up_to 31 operand) (Store (natural operand))
-    else if operation == 3 then then_some (junction == 0) (Push operand)
-    else if operation == 4 then then_some (junction == 0 && up_to 0 operand) Add
-    else if operation == 5 then then_some (junction == 0 && up_to 0 operand) Sub
-    else if operation == 6 then then_some (junction == 0 && up_to 0 operand) Eq
-    else if operation == 7 then then_some (junction == 0 && up_to 0 operand) Less
-    else if operation == 8 then then_some (junction == 0 && up_to 0 operand) Not
-    else if operation == 9 then then_some (junction == 0 && up_to exit operand) (Goto (natural operand))
+    let bare : Bool = junction == 0 in
+    if operation == 1 then then_some (bare && up_to 31 operand) (Load (natural operand))
+    else if operation == 2 then then_some (bare && up_to 31 operand) (Store (natural operand))
+    else if operation == 3 then then_some bare (Push operand)
+    else if operation == 4 then then_some (bare && up_to 0 operand) Add
+    else if operation == 5 then then_some (bare && up_to 0 operand) Sub
+    else if operation == 6 then then_some (bare && up_to 0 operand) Eq
+    else if operation == 7 then then_some (bare && up_to 0 operand) Less
+    else if operation == 8 then then_some (bare && up_to 0 operand) Not
+    else if operation == 9 then then_some (bare && up_to exit operand) (Goto (natural operand))
     else if operation == 10 then
     then_some (nat_le junction exit && up_to exit operand) (GotoF (natural operand) junction)
     else None
