@@ -1,5 +1,5 @@
 -- What a lattice of levels means, and the laws that make it one. Assumes nothing.
-use Rattle.std.specs.Prelude.{◌≡◌, ℕ, ◌<◌, ◌≤◌, Bool, true, ◌⊎◌}
+use Rattle.std.specs.Prelude.{◌≡◌, ℕ, ◌<◌, ◌≤◌, Bool, ◌⊎◌, IsTrue}
 
 -- The six answers. The levels are the codes below the span.
 pub record Order : Type 0 where
@@ -12,23 +12,24 @@ pub record Order : Type 0 where
 
 pub record Laws (o : Order) : Type 0 where
   pub span_bound : o.span ≤ 65536
-  pub only_levels : (a b : ℕ) → o.at_most a b ≡ true → (a < o.span) × (b < o.span)
-  pub reflexive : (a : ℕ) → a < o.span → o.at_most a a ≡ true
-  pub transitive : (a b c : ℕ) → o.at_most a b ≡ true → o.at_most b c ≡ true → o.at_most a c ≡ true
-  pub antisymmetric : (a b : ℕ) → o.at_most a b ≡ true → o.at_most b a ≡ true → a ≡ b
-  pub join_left : (a b : ℕ) → a < o.span → b < o.span → o.at_most a (o.join a b) ≡ true
-  pub join_right : (a b : ℕ) → a < o.span → b < o.span → o.at_most b (o.join a b) ≡ true
+  pub only_levels : (a b : ℕ) → IsTrue (o.at_most a b) → (a < o.span) × (b < o.span)
+  pub reflexive : (a : ℕ) → a < o.span → IsTrue (o.at_most a a)
+  pub transitive : (a b c : ℕ) →
+      IsTrue (o.at_most a b) → IsTrue (o.at_most b c) → IsTrue (o.at_most a c)
+  pub antisymmetric : (a b : ℕ) → IsTrue (o.at_most a b) → IsTrue (o.at_most b a) → a ≡ b
+  pub join_left : (a b : ℕ) → a < o.span → b < o.span → IsTrue (o.at_most a (o.join a b))
+  pub join_right : (a b : ℕ) → a < o.span → b < o.span → IsTrue (o.at_most b (o.join a b))
   pub join_least : (a b c : ℕ) →
-      o.at_most a c ≡ true → o.at_most b c ≡ true → o.at_most (o.join a b) c ≡ true
-  pub meet_left : (a b : ℕ) → a < o.span → b < o.span → o.at_most (o.meet a b) a ≡ true
-  pub meet_right : (a b : ℕ) → a < o.span → b < o.span → o.at_most (o.meet a b) b ≡ true
+      IsTrue (o.at_most a c) → IsTrue (o.at_most b c) → IsTrue (o.at_most (o.join a b) c)
+  pub meet_left : (a b : ℕ) → a < o.span → b < o.span → IsTrue (o.at_most (o.meet a b) a)
+  pub meet_right : (a b : ℕ) → a < o.span → b < o.span → IsTrue (o.at_most (o.meet a b) b)
   pub meet_greatest : (a b c : ℕ) →
-      o.at_most c a ≡ true → o.at_most c b ≡ true → o.at_most c (o.meet a b) ≡ true
+      IsTrue (o.at_most c a) → IsTrue (o.at_most c b) → IsTrue (o.at_most c (o.meet a b))
   -- codes that are no level
   pub join_outside : (a b : ℕ) → (o.span ≤ a) ⊎ (o.span ≤ b) → o.join a b ≡ 0
   pub meet_outside : (a b : ℕ) → (o.span ≤ a) ⊎ (o.span ≤ b) → o.meet a b ≡ 0
-  pub lowest_least : (a : ℕ) → a < o.span → o.at_most o.lowest a ≡ true
-  pub highest_greatest : (a : ℕ) → a < o.span → o.at_most a o.highest ≡ true
+  pub lowest_least : (a : ℕ) → a < o.span → IsTrue (o.at_most o.lowest a)
+  pub highest_greatest : (a : ℕ) → a < o.span → IsTrue (o.at_most a o.highest)
   -- a lattice without levels
   pub lowest_of_none : o.span ≡ 0 → o.lowest ≡ 0
   pub highest_of_none : o.span ≡ 0 → o.highest ≡ 0
