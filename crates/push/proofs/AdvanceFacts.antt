@@ -1,5 +1,6 @@
 -- The run of a budget is what the rules of an advance say, and only that. Assumes nothing.
-use Rattle.std.proofs.Common.{◌≡◌, ◌≢◌, ℕ, zero, suc, ◌+◌, ◌-◌, ◌<◌, ◌≤◌, Bool, true, false, cond, eqb, List, length, Some, None, Option, sym, refl, ap, ◌∙◌, subst, arith}
+use Rattle.std.specs.Prelude.{if◌then◌else◌, ◌==◌}
+use Rattle.std.proofs.Common.{◌≡◌, ◌≢◌, ℕ, zero, suc, ◌+◌, ◌-◌, ◌<◌, ◌≤◌, Bool, true, false, List, length, Some, None, Option, sym, refl, ap, ◌∙◌, subst, arith}
 use Rattle.std.proofs.lemmas.Bool.{true≢false, false≢true, eqb-true, eqb-false, eq-eqb}
 use Rattle.std.proofs.lemmas.Option.{none-some}
 use Rattle.push.specs.declared.instruction.Instruction.{Instruction}
@@ -13,12 +14,12 @@ use Rattle.push.proofs.RunFacts.{counted, run_none, run_stopped, made_one, made_
 module _ (code : List Instruction) where
   -- a machine that has come to the exit has halted, and elsewhere it is going
   at_exit : (m : Machine) → label_of m ≡ length code → arrived code m ≡ halted_at m
-  at_exit m exit = ap (λ b. record { status = cond b Halted Going; machine = m }) (eq-eqb (label_of m) (length code) exit)
+  at_exit m exit = ap (λ b. record { status = if b then Halted else Going; machine = m }) (eq-eqb (label_of m) (length code) exit)
 
   before_exit : (m : Machine) → label_of m ≢ length code → arrived code m ≡ going_at m
-  before_exit m before = by (eqb (label_of m) (length code)) refl
+  before_exit m before = by (label_of m == length code) refl
     where
-      by : (b : Bool) → eqb (label_of m) (length code) ≡ b → record { status = cond b Halted Going; machine = m } ≡ going_at m
+      by : (b : Bool) → (label_of m == length code) ≡ b → record { status = if b then Halted else Going; machine = m } ≡ going_at m
       by true e = absurd (before (eqb-true (label_of m) (length code) e))
       by false e = refl
 
@@ -82,9 +83,9 @@ module _ (code : List Instruction) where
   step_before : {m n : Machine} {before after : RunState} {b count : ℕ} → code ⊢ m ⟶ n →
       (budget total : ℕ) → budget ≡ b + 1 → total ≡ count + 1 →
       before ≡ arrived code n → AdvancesTo code b before count after → AdvancesTo code budget (going_at m) total after
-  step_before {m = m} {n = n} rule budget total one_more counts e (stays {r = r} stopped) = by (eqb (label_of n) (length code)) refl
+  step_before {m = m} {n = n} rule budget total one_more counts e (stays {r = r} stopped) = by (label_of n == length code) refl
     where
-      by : (b : Bool) → eqb (label_of n) (length code) ≡ b → AdvancesTo code budget (going_at m) total r
+      by : (b : Bool) → (label_of n == length code) ≡ b → AdvancesTo code budget (going_at m) total r
       by true exit =
           let label = eqb-true (label_of n) (length code) exit in
           let steps = subst (λ k. Steps code k m n) (sym counts) (more rule none) in
@@ -105,7 +106,7 @@ module _ (code : List Instruction) where
   abbrev RunIsByRules : ℕ → Status → Machine → Type 0
   RunIsByRules budget status m =
       let r : RunState = record { status = status; machine = m } in
-      is_halted status ≡ eqb (label_of m) (length code) → AdvancesTo code budget r (run code budget r).0 (run code budget r).1
+      is_halted status ≡ (label_of m == length code) → AdvancesTo code budget r (run code budget r).0 (run code budget r).1
 
   pub run_advances_to : (budget : ℕ) (status : Status) (m : Machine) → RunIsByRules budget status m
   run_advances_to budget Halted m honest = rw (run_stopped code budget (halted_at m) refl) (stays refl)

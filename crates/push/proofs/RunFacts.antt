@@ -1,5 +1,6 @@
 -- The run of a budget, step by step, and what it promises of whole runs. Assumes nothing.
-use Rattle.std.proofs.Common.{◌≡◌, ℕ, zero, suc, ◌+◌, ◌-◌, ◌<◌, Bool, true, false, cond, ◌&&◌, eqb, ltb, List, [], length, Some, None, Option, sym, refl, ap, ◌∙◌, subst, arith}
+use Rattle.std.specs.Prelude.{if◌then◌else◌, ◌==◌, nat_lt}
+use Rattle.std.proofs.Common.{◌≡◌, ℕ, zero, suc, ◌+◌, ◌-◌, ◌<◌, Bool, true, false, ◌&&◌, List, [], length, Some, None, Option, sym, refl, ap, ◌∙◌, subst, arith}
 use Rattle.std.proofs.lemmas.Bool.{true≢false, false≢true, eqb-true, lt-ltb}
 use Rattle.std.proofs.lemmas.Option.{none-some, slice_get_past}
 use Rattle.push.specs.declared.instruction.Instruction.{Instruction}
@@ -24,11 +25,11 @@ module _ (code : List Instruction) where
 
   pub made_one : (k : ℕ) (r after : RunState) → one_step code r.status r.machine ≡ (true, after) → run code (suc k) r ≡ counted 1 (run code k after)
   unfolding run
-  made_one k r after e = ap (λ (p : Bool × RunState). cond p.0 (counted 1 (run code k p.1)) (0, p.1)) e
+  made_one k r after e = ap (λ (p : Bool × RunState). if p.0 then counted 1 (run code k p.1) else (0, p.1)) e
 
   pub made_none : (k : ℕ) (r after : RunState) → one_step code r.status r.machine ≡ (false, after) → run code (suc k) r ≡ (0, after)
   unfolding run
-  made_none k r after e = ap (λ (p : Bool × RunState). cond p.0 (counted 1 (run code k p.1)) (0, p.1)) e
+  made_none k r after e = ap (λ (p : Bool × RunState). if p.0 then counted 1 (run code k p.1) else (0, p.1)) e
 
   -- a run that has stopped
   stays : (status : Status) (m : Machine) → is_going status ≡ false → one_step code status m ≡ (false, record { status = status; machine = m })
@@ -44,7 +45,7 @@ module _ (code : List Instruction) where
   pub no_step_at_exit : (m : Machine) → label_of m ≡ length code → step code m ≡ None
   no_step_at_exit (at l s vs) exit = ap (λ o. perform o l s vs) (slice_get_past code l (omega (arith, exit)))
 
-  steps_before_exit : (m n : Machine) (b : Bool) → eqb (label_of m) (length code) ≡ b → step code m ≡ Some n → b ≡ false
+  steps_before_exit : (m n : Machine) (b : Bool) → (label_of m == length code) ≡ b → step code m ≡ Some n → b ≡ false
   steps_before_exit m n true exit e = absurd (none-some n (sym (no_step_at_exit m (eqb-true (label_of m) (length code) exit)) ∙ e))
   steps_before_exit m n false before e = refl
 
@@ -66,12 +67,12 @@ module _ (code : List Instruction) where
       before : RunState
       before = (settled k Going (code, of Going m)).1
 
-      stays_going : (b c : Bool) → c ≡ false → cond (b && c) Halted Going ≡ Going
-      stays_going true c e = ap (λ c. cond c Halted Going) e
+      stays_going : (b c : Bool) → c ≡ false → (if b && c then Halted else Going) ≡ Going
+      stays_going true c e = ap (λ c. if c then Halted else Going) e
       stays_going false c e = refl
 
       arrives : (o : Machine) → arrived code o ≡ (settled (k + 1) Going (code, of Going o)).1
-      arrives o = ap (λ b. of (cond (b && eqb (label_of o) (length code)) Halted Going) o) (sym (lt-ltb 0 (k + 1) (omega arith)))
+      arrives o = ap (λ b. of (if b && (label_of o == length code) then Halted else Going) o) (sym (lt-ltb 0 (k + 1) (omega arith)))
 
       sums : (c : ℕ) → k + (1 + c) ≡ k + 1 + c
       sums c = omega arith
@@ -81,8 +82,8 @@ module _ (code : List Instruction) where
       by None stuck e = absurd (true≢false (ap (λ p. p.0) e))
       by (Some o) made e =
           let more : left ≡ suc (left - 1) = omega arith in
-          let exit : Bool = eqb (label_of m) (length code) in
-          let going : before.status ≡ Going = stays_going (ltb 0 k) exit (steps_before_exit m o exit refl made) in
+          let exit : Bool = label_of m == length code in
+          let going : before.status ≡ Going = stays_going (nat_lt 0 k) exit (steps_before_exit m o exit refl made) in
           let turn : one_step code before.status m ≡ (true, arrived code o) = ap (λ s. one_step code s m) going ∙ ap (step_or_fault code m) made in
           so_far ∙ ap (counted k) (ap (λ c. run code c before) more ∙ made_one (left - 1) before (arrived code o) turn)
           ∙ (λ i. (sums (run code (left - 1) (arrived code o)).0 i, (run code (left - 1) (arrived code o)).1))
@@ -106,7 +107,7 @@ module _ (code : List Instruction) where
       ends : (r : RunState) → after ≡ (code, r) → (k, (settled k Faulted (code, r)).1) ≡ total → (k, (settled k Faulted after).1) ≡ total
       ends r e there = ap (λ p. (k, (settled k Faulted p).1)) e ∙ there
 
-      stuck_there : (halts : Bool) → step code m ≡ None → run code left (of (cond halts Halted Going) m) ≡ (0, of (cond halts Halted Faulted) m)
+      stuck_there : (halts : Bool) → step code m ≡ None → run code left (of (if halts then Halted else Going) m) ≡ (0, of (if halts then Halted else Faulted) m)
       stuck_there true stuck = run_stopped left (of Halted m) refl
       stuck_there false stuck =
           let more : left ≡ suc (left - 1) = omega arith in
@@ -116,7 +117,7 @@ module _ (code : List Instruction) where
           → (false, after) ≡ stepped (code, of Going m) o
           → (k, (settled k Faulted after).1) ≡ total
       going None stuck so_far e =
-          let halts : Bool = ltb 0 k && eqb (label_of m) (length code) in
+          let halts : Bool = nat_lt 0 k && (label_of m == length code) in
           ends (of Going m) (ap (λ p. p.1) e) (ends_there total k left _ _ (stuck_there halts stuck) so_far)
       going (Some o) made so_far e = absurd (false≢true (ap (λ p. p.0) e))
 
@@ -157,9 +158,9 @@ module _ (code : List Instruction) where
       by_step (Some n) made e = absurd (true≢false (ap (λ p. p.0) e))
 
   pub arrived_true : (n : Machine) → TrueStatus code (arrived code n)
-  arrived_true n = by (eqb (label_of n) (length code)) refl
+  arrived_true n = by (label_of n == length code) refl
     where
-      by : (b : Bool) → eqb (label_of n) (length code) ≡ b → TrueStatus code (of (cond (eqb (label_of n) (length code)) Halted Going) n)
+      by : (b : Bool) → (label_of n == length code) ≡ b → TrueStatus code (of (if label_of n == length code then Halted else Going) n)
       by true e = rw e (record { halted_at_the_exit = sym e; faulted_without_a_rule = λ f. absurd (true≢false (ap is_halted f)) })
       by false e = rw e (record { halted_at_the_exit = sym e; faulted_without_a_rule = λ f. absurd (true≢false (ap is_going f)) })
 
@@ -191,13 +192,13 @@ module _ (code : List Instruction) where
       by true after e rest =
           let unfolds : run code (suc budget) r ≡ counted 1 (run code budget after) = made_one budget r after e in
           let made = went_on r.status r.machine after e in
-          let then = rest after in
+          let onward = rest after in
           let counts : (run code budget after).0 + 1 ≡ 1 + (run code budget after).0 = omega arith in
           rw unfolds (record {
-            machine_steps = subst (λ k. Steps code k r.machine (run code budget after).1.machine) counts (more made.0 then.machine_steps);
-            within_budget = omega (arith, then.within_budget);
-            short_only_if_stopped = λ h. then.short_only_if_stopped (omega arith);
-            status_stays_true = λ _. then.status_stays_true made.1;
+            machine_steps = subst (λ k. Steps code k r.machine (run code budget after).1.machine) counts (more made.0 onward.machine_steps);
+            within_budget = omega (arith, onward.within_budget);
+            short_only_if_stopped = λ h. onward.short_only_if_stopped (omega arith);
+            status_stays_true = λ _. onward.status_stays_true made.1;
           })
       by false after e rest =
           let unfolds : run code (suc budget) r ≡ (0, after) = made_none budget r after e in

@@ -1,5 +1,6 @@
 -- The function `step` follows the rules, and only them. Assumes nothing.
-use Rattle.std.proofs.Common.{◌≡◌, ℕ, ◌+◌, ◌<◌, Bool, true, false, cond, ltb, List, [], ◌∷◌, length, ℤ, Some, None, Option, int_lt, refl, ap, ◌∙◌, subst}
+use Rattle.std.specs.Prelude.{if◌then◌else◌, nat_lt}
+use Rattle.std.proofs.Common.{◌≡◌, ℕ, ◌+◌, ◌<◌, Bool, true, false, List, [], ◌∷◌, length, ℤ, Some, None, Option, int_lt, refl, ap, ◌∙◌, subst}
 use Rattle.std.proofs.lemmas.Bool.{lt-ltb, ltb-true, cond-true}
 use Rattle.std.proofs.lemmas.Option.{none-some, same_Some}
 use Rattle.std.specs.Ordering.{int_eq}
@@ -13,12 +14,12 @@ use Rattle.push.specs.Numbers.{sum, difference}
 
 module _ (code : List Instruction) where
   room : (x : Value) (l : ℕ) (s : List Value) (vs : List ℤ) → length s < 8 → pushed x l s vs ≡ Some (at (l + 1) (x ∷ s) vs)
-  room x l s vs h = cond-true (ltb (length s) 8) _ _ (lt-ltb (length s) 8 h)
+  room x l s vs h = cond-true (nat_lt (length s) 8) _ _ (lt-ltb (length s) 8 h)
 
   -- a rule's step is the one that `step` makes
   pub rule_steps : {m n : Machine} → code ⊢ m ⟶ n → step code m ≡ Some n
-  rule_steps (load {l} {v} {s} {vs} i small h) = ap (λ j. perform j l s vs) i ∙ cond-true (ltb v 32) _ _ (lt-ltb v 32 small) ∙ room _ l s vs h
-  rule_steps (store {l} {v} {t} {s} {vs} i small) = ap (λ j. perform j l (Int t ∷ s) vs) i ∙ cond-true (ltb v 32) _ _ (lt-ltb v 32 small)
+  rule_steps (load {l} {v} {s} {vs} i small h) = ap (λ j. perform j l s vs) i ∙ cond-true (nat_lt v 32) _ _ (lt-ltb v 32 small) ∙ room _ l s vs h
+  rule_steps (store {l} {v} {t} {s} {vs} i small) = ap (λ j. perform j l (Int t ∷ s) vs) i ∙ cond-true (nat_lt v 32) _ _ (lt-ltb v 32 small)
   rule_steps (push {l} {x} {s} {vs} i h) = ap (λ j. perform j l s vs) i ∙ room _ l s vs h
   rule_steps (add {l} {t} {u} {s} {vs} i) = ap (λ j. perform j l (Int t ∷ Int u ∷ s) vs) i
   rule_steps (sub {l} {t} {u} {s} {vs} i) = ap (λ j. perform j l (Int t ∷ Int u ∷ s) vs) i
@@ -28,7 +29,7 @@ module _ (code : List Instruction) where
   rule_steps (goto {l} {m} {s} {vs} i) = ap (λ j. perform j l s vs) i
   rule_steps (gotof {l} {m} {j} {b} {s} {vs} i) = ap (λ k. perform k l (Flag b ∷ s) vs) i
 
-  kept : {X : Type 0} (b : Bool) (x : Option X) (n : X) → cond b x None ≡ Some n → (b ≡ true) × (x ≡ Some n)
+  kept : {X : Type 0} (b : Bool) (x : Option X) (n : X) → (if b then x else None) ≡ Some n → (b ≡ true) × (x ≡ Some n)
   kept true x n e = (refl, e)
   kept false x n e = absurd (none-some n e)
 
@@ -49,13 +50,13 @@ module _ (code : List Instruction) where
       fetch code l ≡ i → perform i l s vs ≡ Some n → code ⊢ at l s vs ⟶ n
   performed None l s vs n i e = absurd (none-some n e)
   performed (Some (Load v)) l s vs n i e =
-      let known = kept (ltb v 32) _ n e in
-      let free = kept (ltb (length s) 8) _ n known.1 in
+      let known = kept (nat_lt v 32) _ n e in
+      let free = kept (nat_lt (length s) 8) _ n known.1 in
       by_rule (load i (ltb-true v 32 known.0) (ltb-true (length s) 8 free.0)) free.1
   performed (Some (Store v)) l [] vs n i e = absurd (none-some n e)
   performed (Some (Store v)) l (Flag b ∷ s) vs n i e = absurd (none-some n e)
-  performed (Some (Store v)) l (Int t ∷ s) vs n i e = let known = kept (ltb v 32) _ n e in by_rule (store i (ltb-true v 32 known.0)) known.1
-  performed (Some (Push x)) l s vs n i e = let free = kept (ltb (length s) 8) _ n e in by_rule (push i (ltb-true (length s) 8 free.0)) free.1
+  performed (Some (Store v)) l (Int t ∷ s) vs n i e = let known = kept (nat_lt v 32) _ n e in by_rule (store i (ltb-true v 32 known.0)) known.1
+  performed (Some (Push x)) l s vs n i e = let free = kept (nat_lt (length s) 8) _ n e in by_rule (push i (ltb-true (length s) 8 free.0)) free.1
   performed (Some Add) l s vs n i e = combined_by_rule (λ u t. Int (sum u t)) l s vs n (λ t u s. add i) e
   performed (Some Sub) l s vs n i e = combined_by_rule (λ u t. Int (difference u t)) l s vs n (λ t u s. sub i) e
   performed (Some Eq) l s vs n i e = combined_by_rule (λ u t. Flag (int_eq u t)) l s vs n (λ t u s. eq i) e
