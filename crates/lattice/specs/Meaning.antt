@@ -1,5 +1,5 @@
 -- What the kinds mean in the subject's words, as theorems about their definitions. Assumes nothing.
-use Rattle.std.specs.Prelude.{◌≡◌, ℕ, ◌/◌, ◌%◌, ◌^◌, ◌<◌, ◌≤◌, IsTrue, ◌↔◌}
+use Rattle.std.specs.Prelude.{◌≡◌, ℕ, ◌/◌, ◌%◌, ◌<◌, ◌≤◌, IsTrue, ◌↔◌}
 use Rattle.std.specs.Int.{bit_at}
 use Rattle.lattice.specs.Order.{Order, Laws, SameAnswers}
 use Rattle.lattice.specs.Kinds.{ladder, owners, owners_span, pair, pair_span}
