@@ -45,8 +45,9 @@ impl<A: Lattice, B: Lattice> Pair<A, B> {
 
     // The level of two parts.
     fn compose(&self, first: u16, second: u16) -> u16
-        requires { PartsAreLevels
-            (A.Lattice.order self.now.first) (B.Lattice.order self.now.second) (Some (first, second)) }
+        requires { let o : Order = A.Lattice.order self.now.first in
+            let p : Order = B.Lattice.order self.now.second in
+            PartsAreLevels o p (Some (first, second)) }
         ensures { result ≡ code_of (B.Lattice.order self.now.second) first second }
     {
         (u32::from(first) * self.second.span() + u32::from(second)) as u16

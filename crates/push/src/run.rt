@@ -45,12 +45,15 @@ impl Run {
 
     /// Makes steps until the run stops or `budget` are made, and answers the status then and how many were made.
     pub fn advance(&mut self, budget: u32) -> (Status, u32)
-        ensures runs_the_budget { (result.1, run_state self.new) ≡ run self.old.program budget (run_state self.old) }
+        ensures runs_the_budget { (result.1, run_state self.new)
+            ≡ run self.old.program budget (run_state self.old) }
         ensures answers_the_status { result.0 ≡ (run_state self.new).status }
         ensures same_program { self.new.program ≡ self.old.program }
-        ensures makes_the_machines_steps { Advanced self.old.program budget result.1 (run_state self.old) (run_state self.new) }
+        ensures makes_the_machines_steps { Advanced
+            self.old.program budget result.1 (run_state self.old) (run_state self.new) }
         ensures follows_the_rules_of_an_advance { TrueStatus self.old.program (run_state self.old)
-            → AdvancesTo self.old.program budget (run_state self.old) result.1 (run_state self.new) }
+            → AdvancesTo
+            self.old.program budget (run_state self.old) result.1 (run_state self.new) }
         ensures new_runs_are_true { NewRunsAreTrue }
         ensures steps_follow_the_rules { StepFollowsTheRules }
     {
@@ -69,7 +72,8 @@ impl Run {
     // Makes steps until none can be made or so many are made, and answers how many. A step does not write the status;
     // `settle` does, where the steps end: a status that each step wrote would be read again at the next.
     fn steps(&mut self, budget: u32) -> u32
-        ensures runs_the_budget { (result, run_state self.new) ≡ run self.old.program budget (run_state self.old) }
+        ensures runs_the_budget { (result, run_state self.new)
+            ≡ run self.old.program budget (run_state self.old) }
         ensures same_program { self.new.program ≡ self.old.program }
     {
         for steps in 0..budget {
@@ -100,7 +104,8 @@ impl Run {
     // Makes the step that the status and the instruction at the label ask for. None, and nothing changed, where there is none.
     // The instruction is lent and not copied: of it a step reads what it needs.
     fn step(&mut self) -> Option<()>
-        ensures { (is_some result, whole self.new) ≡ stepped (whole self.old) (next (whole self.old)) }
+        ensures { (is_some result, whole self.new)
+            ≡ stepped (whole self.old) (next (whole self.old)) }
     {
         match (self.status, self.program.look(self.label)) {
             (Status::Going, Some(&Instruction::Load(variable))) => self.load(variable),
@@ -187,7 +192,8 @@ impl Run {
         requires { self.old.label < 128 }
         ensures { (is_some result, whole self.new)
             ≡ stepped (whole self.old)
-            (stored variable (integer_on self.old.stack) self.old.label self.old.stack self.old.values) }
+            (stored
+            variable (integer_on self.old.stack) self.old.label self.old.stack self.old.values) }
     {
         let index = usize::from(variable);
         let &[Value::Int(number), ..] = self.stack.places() else {
@@ -236,7 +242,8 @@ impl Run {
         requires { self.old.label < 128 }
         ensures { (is_some result, whole self.new)
             ≡ stepped (whole self.old)
-            (branched target (flag_on self.old.stack) self.old.label self.old.stack self.old.values) }
+            (branched
+            target (flag_on self.old.stack) self.old.label self.old.stack self.old.values) }
     {
         // Two arms: tried as one choice of a label, a step of the nest of branches took 3 % longer.
         match self.stack.places() {
