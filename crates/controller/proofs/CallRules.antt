@@ -15,7 +15,7 @@ use Rattle.checker.specs.WellClaimed.{FirstBroken}
 use Rattle.checker.proofs.Judgement.{verdict_judged, judged}
 use Rattle.checker.proofs.OnlyFirst.{mountable_breaks_none, broken_is_the_verdict}
 use Rattle.controller.specs.State.{SetupState, ReadyState, RunningState, ready_with}
-use Rattle.controller.specs.Sheet.{open_count, sheet, sheet_before}
+use Rattle.controller.specs.Sheet.{open_count, sheet, sheet_in_front}
 use Rattle.controller.specs.Lists as lists
 use Rattle.controller.specs.Lists.{Call, grade, seal, mount, read, show, start, advance, end, unseal, Answer, State, in_setup, is_ready, is_running, Outcome, allowed, disallowed, setup_call, ready_call, running_call, outcome, sheet_shown, after_call, transcript_from, transcript}
 use Rattle.controller.specs.Calls as rule
@@ -88,7 +88,7 @@ show_ruled s observer long = by (ltb observer s.lattice.span) (ltb (length buffe
     size = length-replicate long 0
 
     written : List ℕ
-    written = sheet_before s.lattice s.levels s.values observer buffer
+    written = sheet_in_front s.lattice s.levels s.values observer buffer
 
     whole : take (5 * count) written ≡ lines
     whole = take_at lines (drop (5 * count) buffer) (5 * count) (length_lines s.lattice s.levels s.values observer 32)

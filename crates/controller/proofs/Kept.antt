@@ -23,7 +23,7 @@ use Rattle.checker.proofs.Safety.{accepted_jobs_never_fault, accepted_jobs_keep_
 use Rattle.controller.specs.State.{SetupState, ReadyState, RunningState, Graded, Safe, ready_with}
 use Rattle.controller.specs.Lists as lists
 use Rattle.controller.specs.Lists.{Call, grade, seal, mount, read, show, start, advance, end, unseal, Answer, graded, mounted, was_set, ended, State, in_setup, is_ready, is_running, Outcome, allowed, disallowed, setup_call, ready_call, running_call, outcome, after_call, transcript_from, new_controller, transcript}
-use Rattle.controller.specs.Counts.{fault_in, stack_faults}
+use Rattle.controller.specs.Theorem.{fault_in, stack_faults}
 use Rattle.controller.proofs.LevelFacts.{highest_graded, regraded}
 
 -- A run that came by the machine's steps from some values.

@@ -16,8 +16,8 @@ use Rattle.controller.specs.State.{SetupState, ReadyState, RunningState, Safe}
 use Rattle.controller.specs.Sheet.{line, lines_below, open_count, shown_over}
 use Rattle.controller.specs.Lists as lists
 use Rattle.controller.specs.Lists.{Call, grade, seal, mount, read, show, start, advance, end, unseal, Answer, not_allowed, State, in_setup, is_ready, is_running, Outcome, allowed, disallowed, setup_call, ready_call, running_call, outcome, sheet_shown, after_call, transcript_from, transcript}
-use Rattle.controller.specs.Counts as counts
-use Rattle.controller.specs.Counts.{shows_to, sheet_in, sheets, show_answers, differing, differing_bytes, end_in, ends, state_after, Alike, ClosedValuesStayClosed}
+use Rattle.controller.specs.Theorem as theorem
+use Rattle.controller.specs.Theorem.{shows_to, sheet_in, sheets, show_answers, differing, differing_bytes, end_in, ends, state_after, Alike, ClosedValuesStayClosed}
 use Rattle.controller.proofs.ListFacts.{rest_of}
 use Rattle.controller.proofs.Kept.{Good, run_of, UnderWay, GoodOutcome, good_allowed, stays_good, new_is_good}
 
@@ -184,7 +184,7 @@ module _ (o : Order) (laws : Laws o) (w : ℕ) where
   budgets_paired (same_ready alike) a b = both_disallowed
   budgets_paired (same_running alike) a b = both_allowed no_show refl (λ _. same_running alike)
 
-  closed_paired : {s t : State} → Related s t → (v : ℕ) (x y : ℤ) → counts.open_in s w v ≡ false →
+  closed_paired : {s t : State} → Related s t → (v : ℕ) (x y : ℤ) → theorem.open_in s w v ≡ false →
       Paired (lists.set v x) (outcome s (lists.set v x)) (outcome t (lists.set v y))
   closed_paired same_setup v x y h = both_disallowed
   closed_paired (same_ready {levels = levels} {vs = vs} {ws = ws} {program = program} alike) v x y h =
@@ -249,16 +249,16 @@ module _ (o : Order) (laws : Laws o) (w : ℕ) where
   seen_alike : {s t : State} {calls others : List Call} → Alike w s calls others → Related s t → Good o s → Good o t → (position : ℕ) →
       ends (transcript_from position s calls) ≡ ends (transcript_from position t others) →
       SeenAlike calls others (transcript_from position s calls) (transcript_from position t others)
-  seen_alike counts.none related g h position e = record { same_sheets = refl; same_answers = refl }
-  seen_alike {s = s} {t = t} (counts.same {call = c} {calls = calls} {others = others} rest) related g h position e =
+  seen_alike theorem.none related g h position e = record { same_sheets = refl; same_answers = refl }
+  seen_alike {s = s} {t = t} (theorem.same {call = c} {calls = calls} {others = others} rest) related g h position e =
       turn position s c c calls others refl (outcome s c) (outcome t c) (call_paired related g h c) (stays_good o laws g c) (stays_good o laws h c)
       (λ next r g' h' e'. seen_alike rest r g' h' (position + 1) e') e
-  seen_alike {s = s} {t = t} (counts.budgets {a = a} {b = b} {calls = calls} {others = others} rest) related g h position e =
+  seen_alike {s = s} {t = t} (theorem.budgets {a = a} {b = b} {calls = calls} {others = others} rest) related g h position e =
       let c : Call = advance a in
       let d : Call = advance b in
       turn position s c d calls others refl (outcome s c) (outcome t d) (budgets_paired related a b) (stays_good o laws g c) (stays_good o laws h d)
       (λ next r g' h' e'. seen_alike rest r g' h' (position + 1) e') e
-  seen_alike {s = s} {t = t} (counts.closed {v = v} {x = x} {y = y} {calls = calls} {others = others} small high rest) related g h position e =
+  seen_alike {s = s} {t = t} (theorem.closed {v = v} {x = x} {y = y} {calls = calls} {others = others} small high rest) related g h position e =
       let c : Call = lists.set v x in
       let d : Call = lists.set v y in
       turn position s c d calls others refl (outcome s c) (outcome t d) (closed_paired related v x y high) (stays_good o laws g c) (stays_good o laws h d)

@@ -1,5 +1,6 @@
 -- What each call does, by rules: by a call with its answer one state of a controller leads to another, and the answers
--- of a list of calls are a chain of such steps. Assumes nothing.
+-- of a list of calls are a chain of such steps. State.antt and Lists.antt say the same by functions; these rules are to
+-- be read first, and `TranscriptFollowsTheRules` at the end says that both agree. Assumes nothing.
 use Rattle.std.specs.Prelude.{◌≡◌, ◌≢◌, ℕ, ◌+◌, ◌*◌, ◌<◌, ◌≤◌, List, [], ◌∷◌, replicate, ℤ, pos, slice_index_or, slice_set}
 use Rattle.lattice.specs.Order.{Order}
 use Rattle.push.specs.declared.status.Status.TheVariants as status

@@ -1,4 +1,4 @@
--- The plain terms of a controller, of calls and of answers. Assumes nothing.
+-- What the Rust values of calls, answers and states are in the terms of Lists.antt. Assumes nothing.
 use Rattle.std.specs.Prelude.{◌≡◌, ℕ, ◌/◌, List, [], map, length, Some, None, Ok, Err, vec_items, Option, Result}
 use Rattle.lattice.specs.Order.{Order}
 use Rattle.controller.specs.State.{SetupState, ReadyState, RunningState}

@@ -34,8 +34,8 @@ abbrev pub sheet : Order → List ℕ → List ℤ → ℕ → List ℕ
 sheet o levels values observer = lines_below o levels values observer 32
 
 -- What is left in a buffer: a sheet at its front, and behind it what was there.
-abbrev pub sheet_before : Order → List ℕ → List ℤ → ℕ → List ℕ → List ℕ
-sheet_before o levels values observer buffer =
+abbrev pub sheet_in_front : Order → List ℕ → List ℤ → ℕ → List ℕ → List ℕ
+sheet_in_front o levels values observer buffer =
     sheet o levels values observer ++ drop (5 * open_count o levels observer) buffer
 
 -- Show answers a number and a count, and leaves a buffer.
@@ -44,7 +44,7 @@ shown_over o levels values observer buffer =
     if nat_lt observer o.span
     then if nat_lt (length buffer) (5 * open_count o levels observer)
     then ((3, 0), buffer)
-    else ((0, open_count o levels observer), sheet_before o levels values observer buffer)
+    else ((0, open_count o levels observer), sheet_in_front o levels values observer buffer)
     else ((2, 0), buffer)
 
 abbrev pub show_outcome : {L : Type 0} → (L → Order) → ReadyState L → ℕ → List ℕ → (ℕ × ℕ) × List ℕ

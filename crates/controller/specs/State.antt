@@ -1,4 +1,5 @@
--- A controller in plain terms, and the outcome of each call on it: its answer, and the state then. Assumes nothing.
+-- The states of a controller, and of each call its outcome: what it answers, and the state then. The contracts of the
+-- calls go by these functions; Calls.antt says the same by rules. Assumes nothing.
 use Rattle.std.specs.Prelude.{◌≡◌, ℕ, ◌<◌, if◌then◌else◌, List, [], length, replicate, ℤ, pos, ◌==◌, nat_lt, slice_index_or, slice_set}
 use Rattle.lattice.specs.Order.{Order}
 use Rattle.push.specs.declared.instruction.Instruction.{Instruction}
@@ -32,7 +33,7 @@ pub record Graded (o : Order) (levels : List ℕ) : Type 0 where
   pub sized : length levels ≡ 32
   pub are_levels : 0 < o.span → LevelsOfVariables o levels
 
--- A program that can be run over some levels.
+-- No run of the program faults, and over these levels none lets a closed value into an open variable.
 pub record Safe (o : Order) (levels : List ℕ) (program : List Instruction) : Type 0 where
   pub never_faults : NeverFaults program
   pub keeps_closed : KeepsClosed o levels program

@@ -3,7 +3,8 @@ ghost use Rattle.std.specs.Prelude.{◌≡◌, count_by};
 use crate::VARIABLES;
 use lattice::Lattice;
 
-// A lattice, and the level of each variable. That there are 32 levels of the lattice is an invariant of the states.
+// A lattice, and the level of each variable. That each is a level of the lattice is an invariant of the states that hold
+// this.
 #[derive(Drop)]
 pub(crate) struct Grades<L> {
     pub(crate) lattice: L,

@@ -1,6 +1,6 @@
 ghost use Rattle.std.specs.Prelude.{◌≡◌, ℕ, map, IfOk};
 ghost use Rattle.controller.specs.Calls.{AnswersOf, TranscriptFollowsTheRules};
-ghost use Rattle.controller.specs.Counts.{stack_faults, NoStackFaults, ShownTheSame, ClosedValuesStayClosed};
+ghost use Rattle.controller.specs.Theorem.{stack_faults, NoStackFaults, ShownTheSameIfAlike, ClosedValuesStayClosed};
 ghost use Rattle.controller.specs.Of.{call_of, answer_of, Transcribes};
 
 use crate::answer::Answer;
@@ -10,7 +10,7 @@ use crate::setup::Setup;
 use lattice::Lattice;
 use std::alloc::{AllocError, Global};
 
-// The loop of `transcript`.
+// Performs a list of calls on a new controller.
 fn perform<L: Lattice + Drop>(
     heap: Global,
     lattice: L,
@@ -49,7 +49,8 @@ pub fn transcript<L: Lattice + Drop>(
     perform(heap, lattice, calls)
 }
 
-// The two transcripts of `two_transcripts`, without its theorem, so that a wrong list is refused here and at its fact.
+// Performs both lists. `two_transcripts` adds the theorem: a wrong list is then refused here, at the clause that it
+// breaks, and not somewhere in the theorem's proof.
 fn perform_both<L: Lattice>(
     heap: Global,
     lattice: &L,
@@ -85,7 +86,7 @@ pub fn two_transcripts<L: Lattice>(
         (stack_faults (map answer_of both.0.items) ≡ 0)
         × (stack_faults (map answer_of both.1.items) ≡ 0)) }
     ensures closed_values_stay_closed { IfOk result (λ both. (observer : ℕ) →
-        ShownTheSame (L.Lattice.order lattice.now) (map call_of calls.now) (map call_of others.now)
+        ShownTheSameIfAlike (L.Lattice.order lattice.now) (map call_of calls.now) (map call_of others.now)
         (map answer_of both.0.items) (map answer_of both.1.items) observer) }
 {
     perform_both(heap, lattice, calls, others)

@@ -22,10 +22,10 @@ pub(crate) enum Phase<L: Lattice> {
 }
 
 // The state after a call, and its answer; none where the state does not allow the call.
-type Step<L> = Option<(Phase<L>, Answer)>;
+type Performed<L> = Option<(Phase<L>, Answer)>;
 
 // Performs a call in setup; none where setup does not allow it.
-fn call_in_setup<L: Lattice + Drop>(mut setup: Setup<L>, call: Call) -> Step<L>
+fn call_in_setup<L: Lattice + Drop>(mut setup: Setup<L>, call: Call) -> Performed<L>
     ensures { outcome_of L.Lattice.order result
         ≡ setup_call (setup_of L.Lattice.order setup) (call_of call.entry) }
 {
@@ -39,8 +39,8 @@ fn call_in_setup<L: Lattice + Drop>(mut setup: Setup<L>, call: Call) -> Step<L>
     }
 }
 
-// Performs a call while a run is open; none where that does not allow it.
-fn call_while_running<L: Lattice + Drop>(mut running: Running<L>, call: Call) -> Step<L>
+// Performs a call while a run is under way; none where that does not allow it.
+fn call_while_running<L: Lattice + Drop>(mut running: Running<L>, call: Call) -> Performed<L>
     ensures { outcome_of L.Lattice.order result
         ≡ running_call (running_of L.Lattice.order running) (call_of call.entry) }
 {
@@ -84,7 +84,7 @@ fn call_when_ready<L: Lattice + Drop>(
     heap: Global,
     mut ready: Ready<L>,
     call: Call,
-) -> Result<Step<L>, AllocError>
+) -> Result<Performed<L>, AllocError>
     ensures { IfOk result (λ step. outcome_of L.Lattice.order step
         ≡ ready_call (ready_of L.Lattice.order ready) (call_of call.entry)) }
 {
@@ -104,7 +104,7 @@ fn call_when_ready<L: Lattice + Drop>(
 
 impl<L: Lattice + Drop> Phase<L> {
     // Performs a call; none where the state does not allow it.
-    pub(crate) fn call(self, heap: Global, call: Call) -> Result<Step<L>, AllocError>
+    pub(crate) fn call(self, heap: Global, call: Call) -> Result<Performed<L>, AllocError>
         ensures { IfOk result (λ step. outcome_of L.Lattice.order step
             ≡ outcome (state_of L.Lattice.order self) (call_of call.entry)) }
     {

@@ -2,7 +2,7 @@ ghost use Rattle.std.specs.Prelude.{◌≡◌, ◌*◌, ◌≤◌, length, IfOk,
 ghost use Rattle.checker.specs.Faults.{mount_answer};
 ghost use Rattle.controller.specs.Answers.{done_answer, read_answer, shown_answer};
 ghost use Rattle.controller.specs.State.{Safe, set_outcome, read_outcome, mount_outcome, unsealed_state, started_state};
-ghost use Rattle.controller.specs.Sheet.{open_count, sheet_before, show_outcome};
+ghost use Rattle.controller.specs.Sheet.{open_count, sheet_in_front, show_outcome};
 
 use crate::VARIABLES;
 use crate::grades::Grades;
@@ -55,18 +55,17 @@ impl<L: Lattice> Ready<L> {
         Ok(())
     }
 
-    /// Writes the value of the variable of a number, 0 to 31.
+    /// Writes the value of one of the variables 0 to 31.
     pub fn set(&mut self, variable: u8, value: i32) -> Result<(), Refusal>
         ensures sets_or_refuses { (done_answer result, self.new) ≡ set_outcome self.old variable value }
         ensures refused_changes_nothing { IfErr result (λ _. self.new ≡ self.old) }
     {
         let index = index_of(variable)?;
-        // Not through `get_mut`: of what is written through it a proof knows the length alone.
         self.values[index] = value;
         Ok(())
     }
 
-    /// The value of the variable of a number, 0 to 31.
+    /// The value of one of the variables 0 to 31.
     pub fn read(&self, variable: u8) -> Result<i32, Refusal>
         ensures reads_or_refuses { read_answer result ≡ read_outcome self.now variable }
     {
@@ -100,11 +99,9 @@ impl<L: Lattice> Ready<L> {
         requires { 5 * open_count (L.Lattice.order self.now.lattice) self.now.levels observer
             ≤ length buffer.old }
         ensures { buffer.new
-            ≡ sheet_before (L.Lattice.order self.now.lattice) self.now.levels self.now.values observer buffer.old }
+            ≡ sheet_in_front (L.Lattice.order self.now.lattice) self.now.levels self.now.values observer buffer.old }
     {
-        // Tried in place of `at`: the slice of what is left, moved on at each line. After the loop a proof knows the
-        // buffer's length alone. And a loop over the open variables by `filter`, alone or beside `chunks_exact_mut`: the
-        // check refuses what it writes of the iterator.
+        // By a place in the buffer: where the slice of what is left is moved on, a proof knows its length alone.
         let mut at = 0;
         for (variable, (value, level)) in self.values.iter().zip(&self.grades.levels).enumerate() {
             if self.grades.is_open(*level, observer) {

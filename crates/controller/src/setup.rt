@@ -38,7 +38,7 @@ impl<L: Lattice> Setup<L> {
         }
     }
 
-    /// Gives the variable of a number, 0 to 31, a level.
+    /// Gives one of the variables 0 to 31 a level.
     pub fn grade(&mut self, variable: u8, level: u16) -> Result<(), Refusal>
         ensures grades_or_refuses { (done_answer result, self.new)
             ≡ grade_outcome L.Lattice.order self.old variable level }
@@ -48,7 +48,6 @@ impl<L: Lattice> Setup<L> {
         if !self.grades.lattice.is_level(level) {
             return Err(Refusal::NoLevel);
         }
-        // Not through `get_mut`: of what is written through it a proof knows the length alone.
         self.grades.levels[index] = level;
         Ok(())
     }

@@ -4,7 +4,8 @@ ghost use Rattle.controller.specs.declared.refusal.Refusal.TheVariants.{NoVariab
 use crate::VARIABLES;
 use crate::refusal::Refusal;
 
-// The index of the variable of a number, where there is one.
+// The index of a variable, where there is one. An index and no reference: of what is written through one that `get_mut`
+// lends of an array, a proof knows no element.
 pub(crate) fn index_of(variable: u8) -> Result<usize, Refusal>
     ensures { MatchResult result
         (λ index. (variable < 32) × (index ≡ variable))

@@ -1,4 +1,5 @@
--- The two counts over lists of calls, and what it means that two lists are alike for an observer. Assumes nothing.
+-- The theorem: the stack faults and the differing bytes in lists of calls, what it means that two lists are alike for an
+-- observer, and what is promised of them. Assumes nothing.
 use Rattle.std.specs.Prelude.{◌≡◌, ℕ, ◌+◌, ◌<◌, Bool, false, if◌then◌else◌, List, [], ◌∷◌, length, map, ℤ, ◌==◌}
 use Rattle.std.specs.List.{sum_by, flat_map, zip}
 use Rattle.lattice.specs.Order.{Order}
@@ -92,9 +93,9 @@ NoStackFaults o = (calls : List Call) → stack_faults (transcript o calls) ≡ 
 
 -- Two lists, each on a new controller, with their answers: if they are alike for an observer and their ends agree, the
 -- observer's sheets are the same, byte for byte, and its shows answer the same.
-abbrev pub ShownTheSame :
+abbrev pub ShownTheSameIfAlike :
     Order → List Call → List Call → List Answer → List Answer → ℕ → Type 0
-ShownTheSame o calls others left right observer =
+ShownTheSameIfAlike o calls others left right observer =
     Alike observer (new_controller o) calls others → ends left ≡ ends right →
     (differing_bytes (sheets observer calls left) (sheets observer others right) ≡ 0)
     × (show_answers observer calls left ≡ show_answers observer others right)
@@ -104,4 +105,4 @@ ShownTheSame o calls others left right observer =
 abbrev pub ClosedValuesStayClosed : Order → List Call → Type 0
 ClosedValuesStayClosed o calls =
     (observer : ℕ) (others : List Call) →
-    ShownTheSame o calls others (transcript o calls) (transcript o others) observer
+    ShownTheSameIfAlike o calls others (transcript o calls) (transcript o others) observer
