@@ -21,7 +21,6 @@ pub struct Running<L: Lattice> {
 
 impl<L: Lattice> Model for Running<L> {
     ghost use Rattle.std.specs.Prelude.{◌≡◌, length};
-    ghost use Rattle.push.specs.Of.{run_state};
     ghost use Rattle.controller.specs.State.{RunningState, Graded};
 
     ghost Value = { RunningState L };
@@ -31,7 +30,7 @@ impl<L: Lattice> Model for Running<L> {
       levels = s.grades.levels;
       remembered = s.remembered;
       program = s.run.program;
-      run = run_state s.run;
+      run = s.run.state;
     } };
 
     ghost invariant = { λ s. Graded (L.Lattice.order s.grades.lattice) s.grades.levels

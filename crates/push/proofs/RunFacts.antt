@@ -8,7 +8,7 @@ use Rattle.push.specs.Machine.{Machine, at, step, perform, ◌⊢◌⟶◌}
 use Rattle.push.specs.declared.status.Status.{Status}
 use Rattle.push.specs.declared.status.Status.TheVariants.{Going, Halted, Faulted}
 use Rattle.push.specs.Of.{next, stepped, settled}
-use Rattle.push.specs.Run.{RunState, one_step, step_or_fault, arrived, run, is_going, is_halted, label_of, Steps, none, more, TrueStatus, NewRunsAreTrue, Advanced}
+use Rattle.push.specs.Run.{RunState, ProgramRun, one_step, step_or_fault, arrived, run, is_going, is_halted, label_of, Steps, none, more, TrueStatus, NewRunsAreTrue, Advanced}
 use Rattle.push.proofs.StepFacts.{rule_steps, steps_by_rule}
 
 -- Some steps before a run of more.
@@ -17,6 +17,9 @@ counted k after = (k + after.0, after.1)
 
 abbrev of : Status → Machine → RunState
 of status m = record { status = status; machine = m }
+
+abbrev held : List Instruction → RunState → ProgramRun
+held code r = record { program = code; state = r }
 
 module _ (code : List Instruction) where
   pub run_none : (r : RunState) → run code 0 r ≡ (0, r)
@@ -50,35 +53,35 @@ module _ (code : List Instruction) where
   steps_before_exit m n false before e = refl
 
   -- before the first step there is nothing to settle
-  pub nothing_to_settle : (status : Status) (m : Machine) → (settled 0 Going (code, of status m)).1 ≡ of status m
+  pub nothing_to_settle : (status : Status) (m : Machine) → (settled 0 Going (held code (of status m))).state ≡ of status m
   nothing_to_settle Going m = refl
   nothing_to_settle Halted m = refl
   nothing_to_settle Faulted m = refl
 
   -- a turn of the loop that makes a step, and one that makes none: the status is settled where the turns end
-  pub turn_made : (total : ℕ × RunState) (k left : ℕ) (status : Status) (m : Machine) (after : List Instruction × RunState) → 0 < left
-      → total ≡ counted k (run code left (settled k Going (code, of status m)).1)
-      → (true, after) ≡ stepped (code, of status m) (next (code, of status m))
-      → total ≡ counted (k + 1) (run after.0 (left - 1) (settled (k + 1) Going after).1)
+  pub turn_made : (total : ℕ × RunState) (k left : ℕ) (status : Status) (m : Machine) (after : ProgramRun) → 0 < left
+      → total ≡ counted k (run code left (settled k Going (held code (of status m))).state)
+      → (true, after) ≡ stepped (held code (of status m)) (next (held code (of status m)))
+      → total ≡ counted (k + 1) (run after.program (left - 1) (settled (k + 1) Going after).state)
   turn_made total k left Halted m after some so_far e = absurd (true≢false (ap (λ p. p.0) e))
   turn_made total k left Faulted m after some so_far e = absurd (true≢false (ap (λ p. p.0) e))
   turn_made total k left Going m after some so_far e = by (step code m) refl e
     where
       before : RunState
-      before = (settled k Going (code, of Going m)).1
+      before = (settled k Going (held code (of Going m))).state
 
       stays_going : (b c : Bool) → c ≡ false → (if b && c then Halted else Going) ≡ Going
       stays_going true c e = ap (λ c. if c then Halted else Going) e
       stays_going false c e = refl
 
-      arrives : (o : Machine) → arrived code o ≡ (settled (k + 1) Going (code, of Going o)).1
+      arrives : (o : Machine) → arrived code o ≡ (settled (k + 1) Going (held code (of Going o))).state
       arrives o = ap (λ b. of (if b && (label_of o == length code) then Halted else Going) o) (sym (lt-ltb 0 (k + 1) (omega arith)))
 
       sums : (c : ℕ) → k + (1 + c) ≡ k + 1 + c
       sums c = omega arith
 
-      by : (o : Option Machine) → step code m ≡ o → (true, after) ≡ stepped (code, of Going m) o
-          → total ≡ counted (k + 1) (run after.0 (left - 1) (settled (k + 1) Going after).1)
+      by : (o : Option Machine) → step code m ≡ o → (true, after) ≡ stepped (held code (of Going m)) o
+          → total ≡ counted (k + 1) (run after.program (left - 1) (settled (k + 1) Going after).state)
       by None stuck e = absurd (true≢false (ap (λ p. p.0) e))
       by (Some o) made e =
           let more : left ≡ suc (left - 1) = omega arith in
@@ -88,7 +91,7 @@ module _ (code : List Instruction) where
           so_far ∙ ap (counted k) (ap (λ c. run code c before) more ∙ made_one (left - 1) before (arrived code o) turn)
           ∙ (λ i. (sums (run code (left - 1) (arrived code o)).0 i, (run code (left - 1) (arrived code o)).1))
           ∙ ap (λ r. counted (k + 1) (run code (left - 1) r)) (arrives o)
-          ∙ ap (λ p. counted (k + 1) (run p.1.0 (left - 1) (settled (k + 1) Going p.1).1)) (sym e)
+          ∙ ap (λ p. counted (k + 1) (run p.1.program (left - 1) (settled (k + 1) Going p.1).state)) (sym e)
 
   ends_there : (total : ℕ × RunState) (k left : ℕ) (r end : RunState) → run code left r ≡ (0, end)
       → total ≡ counted k (run code left r)
@@ -98,14 +101,14 @@ module _ (code : List Instruction) where
       nothing_more : k + 0 ≡ k
       nothing_more = omega arith
 
-  pub turn_refused : (total : ℕ × RunState) (k left : ℕ) (status : Status) (m : Machine) (after : List Instruction × RunState) → 0 < left
-      → total ≡ counted k (run code left (settled k Going (code, of status m)).1)
-      → (false, after) ≡ stepped (code, of status m) (next (code, of status m))
-      → (k, (settled k Faulted after).1) ≡ total
+  pub turn_refused : (total : ℕ × RunState) (k left : ℕ) (status : Status) (m : Machine) (after : ProgramRun) → 0 < left
+      → total ≡ counted k (run code left (settled k Going (held code (of status m))).state)
+      → (false, after) ≡ stepped (held code (of status m)) (next (held code (of status m)))
+      → (k, (settled k Faulted after).state) ≡ total
   turn_refused total k left status m after some so_far e = by status so_far e
     where
-      ends : (r : RunState) → after ≡ (code, r) → (k, (settled k Faulted (code, r)).1) ≡ total → (k, (settled k Faulted after).1) ≡ total
-      ends r e there = ap (λ p. (k, (settled k Faulted p).1)) e ∙ there
+      ends : (r : RunState) → after ≡ held code r → (k, (settled k Faulted (held code r)).state) ≡ total → (k, (settled k Faulted after).state) ≡ total
+      ends r e there = ap (λ p. (k, (settled k Faulted p).state)) e ∙ there
 
       stuck_there : (halts : Bool) → step code m ≡ None → run code left (of (if halts then Halted else Going) m) ≡ (0, of (if halts then Halted else Faulted) m)
       stuck_there true stuck = run_stopped left (of Halted m) refl
@@ -113,17 +116,17 @@ module _ (code : List Instruction) where
           let more : left ≡ suc (left - 1) = omega arith in
           ap (λ c. run code c (of Going m)) more ∙ made_none (left - 1) (of Going m) (of Faulted m) (ap (step_or_fault code m) stuck)
 
-      going : (o : Option Machine) → step code m ≡ o → total ≡ counted k (run code left (settled k Going (code, of Going m)).1)
-          → (false, after) ≡ stepped (code, of Going m) o
-          → (k, (settled k Faulted after).1) ≡ total
+      going : (o : Option Machine) → step code m ≡ o → total ≡ counted k (run code left (settled k Going (held code (of Going m))).state)
+          → (false, after) ≡ stepped (held code (of Going m)) o
+          → (k, (settled k Faulted after).state) ≡ total
       going None stuck so_far e =
           let halts : Bool = nat_lt 0 k && (label_of m == length code) in
           ends (of Going m) (ap (λ p. p.1) e) (ends_there total k left _ _ (stuck_there halts stuck) so_far)
       going (Some o) made so_far e = absurd (false≢true (ap (λ p. p.0) e))
 
-      by : (status : Status) → total ≡ counted k (run code left (settled k Going (code, of status m)).1)
-          → (false, after) ≡ stepped (code, of status m) (next (code, of status m))
-          → (k, (settled k Faulted after).1) ≡ total
+      by : (status : Status) → total ≡ counted k (run code left (settled k Going (held code (of status m))).state)
+          → (false, after) ≡ stepped (held code (of status m)) (next (held code (of status m)))
+          → (k, (settled k Faulted after).state) ≡ total
       by Halted so_far e = ends (of Halted m) (ap (λ p. p.1) e) (ends_there total k left _ _ (run_stopped left (of Halted m) refl) so_far)
       by Faulted so_far e = ends (of Faulted m) (ap (λ p. p.1) e) (ends_there total k left _ _ (run_stopped left (of Faulted m) refl) so_far)
       by Going so_far e = going (step code m) refl so_far e

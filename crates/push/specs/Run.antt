@@ -3,6 +3,7 @@ use Rattle.std.specs.Prelude.{◌≡◌, ◌≢◌, ℕ, zero, suc, ◌+◌, ◌
 use Rattle.push.specs.declared.instruction.Instruction.{Instruction}
 use Rattle.push.specs.declared.status.Status.{Status}
 use Rattle.push.specs.declared.status.Status.TheVariants.{Going, Halted, Faulted}
+use Rattle.push.specs.declared.value.Value.{Value}
 use Rattle.push.specs.Machine.{Machine, at, step, ◌⊢◌⟶◌}
 
 abbrev pub status_number : Status → ℕ
@@ -14,8 +15,16 @@ pub record RunState : Type 0 where
   pub status : Status
   pub machine : Machine
 
+-- A run with its program, as contracts see it.
+pub record ProgramRun : Type 0 where
+  pub program : List Instruction
+  pub state : RunState
+
 abbrev pub label_of : Machine → ℕ
 label_of (at l s vs) = l
+
+abbrev pub stack_of : Machine → List Value
+stack_of (at l s vs) = s
 
 abbrev pub values_of : Machine → List ℤ
 values_of (at l s vs) = vs

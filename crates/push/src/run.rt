@@ -1,6 +1,6 @@
 ghost use Rattle.std.specs.Prelude.{◌≡◌, ◌+◌, ◌<◌, ◌≤◌, true, [], ◌∷◌, length, drop, is_some, Some, None, MatchOption};
 ghost use Rattle.push.specs.Machine.{at, pushed, loaded, stored, negated, branched, integers_on, integer_on, flag_on, StepFollowsTheRules};
-ghost use Rattle.push.specs.Run.{begun, run, Advanced, TrueStatus, AdvancesTo, NewRunsAreTrue};
+ghost use Rattle.push.specs.Run.{label_of, stack_of, values_of, begun, run, Advanced, TrueStatus, AdvancesTo, NewRunsAreTrue};
 
 use crate::VARIABLES;
 use crate::instruction::Instruction;
@@ -8,6 +8,7 @@ use crate::program::Program;
 use crate::stack::Stack;
 use crate::status::Status;
 use crate::value::Value;
+use std::marker::Model;
 
 /// A program under way: its status, the label of the instruction that comes next, its stack, and the values of the variables.
 #[derive(Drop)]
@@ -17,16 +18,31 @@ pub struct Run {
     label: usize,
     stack: Stack,
     values: [i32; VARIABLES],
-    ghost values_sized: { length values ≡ 32 },
+}
+
+// In a clause a run is its program and its state: the status, and the machine of its label, stack and values.
+impl Model for Run {
+    ghost use Rattle.std.specs.Prelude.{◌≡◌, length};
+    ghost use Rattle.push.specs.Machine.{at};
+    ghost use Rattle.push.specs.Run.{ProgramRun};
+
+    ghost Value = { ProgramRun };
+
+    ghost view = { λ r. record {
+      program = r.program;
+      state = record { status = r.status; machine = at r.label r.stack r.values };
+    } };
+
+    ghost invariant = { λ r. length r.values ≡ 32 };
 }
 
 // That the label is below 128 holds only where it has an instruction, so it is a clause of the calls that a step makes.
 impl Run {
-    ghost use Rattle.push.specs.Of.{run_state, whole, next, stepped, settled};
+    ghost use Rattle.push.specs.Of.{next, stepped, stepped_by, settled};
 
     /// A run at label 0 with an empty stack, on the values of the variables. Without instructions it has halted.
     pub fn begin(program: Program, values: [i32; VARIABLES]) -> Self
-        ensures is_a_new_run { run_state result ≡ begun program values }
+        ensures is_a_new_run { result.state ≡ begun program values }
         ensures same_program { result.program ≡ program }
     {
         let status = if program.len() == 0 {
@@ -45,15 +61,15 @@ impl Run {
 
     /// Makes steps until the run stops or `budget` are made, and answers the status then and how many were made.
     pub fn advance(&mut self, budget: u32) -> (Status, u32)
-        ensures runs_the_budget { (result.1, run_state self.new)
-            ≡ run self.old.program budget (run_state self.old) }
-        ensures answers_the_status { result.0 ≡ (run_state self.new).status }
+        ensures runs_the_budget { (result.1, self.new.state)
+            ≡ run self.old.program budget self.old.state }
+        ensures answers_the_status { result.0 ≡ self.new.state.status }
         ensures same_program { self.new.program ≡ self.old.program }
         ensures makes_the_machines_steps { Advanced
-            self.old.program budget result.1 (run_state self.old) (run_state self.new) }
-        ensures follows_the_rules_of_an_advance { TrueStatus self.old.program (run_state self.old)
+            self.old.program budget result.1 self.old.state self.new.state }
+        ensures follows_the_rules_of_an_advance { TrueStatus self.old.program self.old.state
             → AdvancesTo
-            self.old.program budget (run_state self.old) result.1 (run_state self.new) }
+            self.old.program budget self.old.state result.1 self.new.state }
         ensures new_runs_are_true { NewRunsAreTrue }
         ensures steps_follow_the_rules { StepFollowsTheRules }
     {
@@ -63,7 +79,8 @@ impl Run {
 
     /// The status, the program and the values that the run leaves.
     pub fn finish(self) -> (Status, Program, [i32; VARIABLES])
-        ensures hands_back_what_it_leaves { result ≡ (self.status, self.program, self.values) }
+        ensures hands_back_what_it_leaves { result
+            ≡ (self.state.status, self.program, values_of self.state.machine) }
     {
         let values = self.values;
         (self.status, self.program, values)
@@ -72,8 +89,8 @@ impl Run {
     // Makes steps until none can be made or so many are made, and answers how many. A step does not write the status;
     // `settle` does, where the steps end: a status that each step wrote would be read again at the next.
     fn steps(&mut self, budget: u32) -> u32
-        ensures runs_the_budget { (result, run_state self.new)
-            ≡ run self.old.program budget (run_state self.old) }
+        ensures runs_the_budget { (result, self.new.state)
+            ≡ run self.old.program budget self.old.state }
         ensures same_program { self.new.program ≡ self.old.program }
     {
         for steps in 0..budget {
@@ -90,7 +107,7 @@ impl Run {
     // Where none was made it has come nowhere: a run that is going at the exit is none that `begin` and `advance` leave,
     // but the type does not say so, since between steps there is one.
     fn settle(&mut self, steps: u32, otherwise: Status)
-        ensures { whole self.new ≡ settled steps otherwise (whole self.old) }
+        ensures { self.new ≡ settled steps otherwise self.old }
     {
         if self.status == Status::Going {
             self.status = if steps > 0 && self.label == self.program.len() {
@@ -104,8 +121,7 @@ impl Run {
     // Makes the step that the status and the instruction at the label ask for. None, and nothing changed, where there is none.
     // The instruction is lent and not copied: of it a step reads what it needs.
     fn step(&mut self) -> Option<()>
-        ensures { (is_some result, whole self.new)
-            ≡ stepped (whole self.old) (next (whole self.old)) }
+        ensures { (is_some result, self.new) ≡ stepped self.old (next self.old) }
     {
         match (self.status, self.program.look(self.label)) {
             (Status::Going, Some(&Instruction::Load(variable))) => self.load(variable),
@@ -129,8 +145,8 @@ impl Run {
 
     // Comes to a label.
     fn go(&mut self, label: usize) -> Option<()>
-        ensures { (is_some result, whole self.new)
-            ≡ stepped (whole self.old) (Some (at label self.old.stack self.old.values)) }
+        ensures { (is_some result, self.new)
+            ≡ stepped_by self.old (λ l s vs. Some (at label s vs)) }
     {
         self.label = label;
         Some(())
@@ -138,11 +154,11 @@ impl Run {
 
     // Goes on to the next label with a value in place of so many popped ones.
     fn put(&mut self, popped: usize, value: Value) -> Option<()>
-        requires label { self.old.label < 128 }
-        requires places { (popped ≤ length self.old.stack) × (length self.old.stack < 8 + popped) }
-        ensures { (is_some result, whole self.new)
-            ≡ stepped (whole self.old)
-            (Some (at (self.old.label + 1) (value ∷ drop popped self.old.stack) self.old.values)) }
+        requires label { label_of self.old.state.machine < 128 }
+        requires places { (popped ≤ length (stack_of self.old.state.machine))
+            × (length (stack_of self.old.state.machine) < 8 + popped) }
+        ensures { (is_some result, self.new)
+            ≡ stepped_by self.old (λ l s vs. Some (at (l + 1) (value ∷ drop popped s) vs)) }
     {
         // The label first: tried after the stack, a step of the nest of branches took a fifth longer.
         self.label += 1;
@@ -152,11 +168,10 @@ impl Run {
 
     // Goes on to the next label with the top popped.
     fn pop(&mut self) -> Option<()>
-        requires label { self.old.label < 128 }
-        requires place { 1 ≤ length self.old.stack }
-        ensures { (is_some result, whole self.new)
-            ≡ stepped (whole self.old)
-            (Some (at (self.old.label + 1) (drop 1 self.old.stack) self.old.values)) }
+        requires label { label_of self.old.state.machine < 128 }
+        requires place { 1 ≤ length (stack_of self.old.state.machine) }
+        ensures { (is_some result, self.new)
+            ≡ stepped_by self.old (λ l s vs. Some (at (l + 1) (drop 1 s) vs)) }
     {
         self.label += 1;
         self.stack.pop();
@@ -165,10 +180,8 @@ impl Run {
 
     // Pushes a value, where a place is free.
     fn push(&mut self, value: Value) -> Option<()>
-        requires { self.old.label < 128 }
-        ensures { (is_some result, whole self.new)
-            ≡ stepped (whole self.old)
-            (pushed value self.old.label self.old.stack self.old.values) }
+        requires { label_of self.old.state.machine < 128 }
+        ensures { (is_some result, self.new) ≡ stepped_by self.old (pushed value) }
     {
         if !self.stack.has_room() {
             return None;
@@ -178,10 +191,8 @@ impl Run {
 
     // Pushes a variable.
     fn load(&mut self, variable: u8) -> Option<()>
-        requires { self.old.label < 128 }
-        ensures { (is_some result, whole self.new)
-            ≡ stepped (whole self.old)
-            (loaded variable self.old.label self.old.stack self.old.values) }
+        requires { label_of self.old.state.machine < 128 }
+        ensures { (is_some result, self.new) ≡ stepped_by self.old (loaded variable) }
     {
         let number = *self.values.get(usize::from(variable))?;
         self.push(Value::Int(number))
@@ -189,11 +200,9 @@ impl Run {
 
     // Pops the integer on top into a variable.
     fn store(&mut self, variable: u8) -> Option<()>
-        requires { self.old.label < 128 }
-        ensures { (is_some result, whole self.new)
-            ≡ stepped (whole self.old)
-            (stored
-            variable (integer_on self.old.stack) self.old.label self.old.stack self.old.values) }
+        requires { label_of self.old.state.machine < 128 }
+        ensures { (is_some result, self.new)
+            ≡ stepped_by self.old (λ l s vs. stored variable (integer_on s) l s vs) }
     {
         let index = usize::from(variable);
         let &[Value::Int(number), ..] = self.stack.places() else {
@@ -209,14 +218,13 @@ impl Run {
 
     // Puts what is made of the integers u and t in their place, where t is on top and u under it.
     fn combine<F: Fn(i32, i32) -> Value>(&mut self, make: F) -> Option<()>
-        requires label { self.old.label < 128 }
+        requires label { label_of self.old.state.machine < 128 }
         requires callable { F.IsAlwaysCallable make }
-        ensures { MatchOption (integers_on self.old.stack)
-            ((is_some result, whole self.new) ≡ stepped (whole self.old) None)
+        ensures { MatchOption (integers_on (stack_of self.old.state.machine))
+            ((is_some result, self.new) ≡ stepped self.old None)
             (λ p. (v : Value) × F.post make p.0 p.1 v
-            × ((is_some result, whole self.new)
-            ≡ stepped (whole self.old)
-            (Some (at (self.old.label + 1) (v ∷ drop 2 self.old.stack) self.old.values)))) }
+            × ((is_some result, self.new)
+            ≡ stepped_by self.old (λ l s vs. Some (at (l + 1) (v ∷ drop 2 s) vs)))) }
     {
         let &[Value::Int(t), Value::Int(u), ..] = self.stack.places() else {
             return None;
@@ -226,10 +234,9 @@ impl Run {
 
     // Replaces the boolean on top by its opposite.
     fn negate(&mut self) -> Option<()>
-        requires { self.old.label < 128 }
-        ensures { (is_some result, whole self.new)
-            ≡ stepped (whole self.old)
-            (negated (flag_on self.old.stack) self.old.label self.old.stack self.old.values) }
+        requires { label_of self.old.state.machine < 128 }
+        ensures { (is_some result, self.new)
+            ≡ stepped_by self.old (λ l s vs. negated (flag_on s) l s vs) }
     {
         let &[Value::Flag(flag), ..] = self.stack.places() else {
             return None;
@@ -239,11 +246,9 @@ impl Run {
 
     // Goes to the target where the boolean on top is false.
     fn branch(&mut self, target: u8) -> Option<()>
-        requires { self.old.label < 128 }
-        ensures { (is_some result, whole self.new)
-            ≡ stepped (whole self.old)
-            (branched
-            target (flag_on self.old.stack) self.old.label self.old.stack self.old.values) }
+        requires { label_of self.old.state.machine < 128 }
+        ensures { (is_some result, self.new)
+            ≡ stepped_by self.old (λ l s vs. branched target (flag_on s) l s vs) }
     {
         // Two arms: tried as one choice of a label, a step of the nest of branches took 3 % longer.
         match self.stack.places() {

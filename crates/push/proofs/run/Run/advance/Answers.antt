@@ -1,5 +1,4 @@
 use Rattle.std.proofs.Common.{sym}
-use Rattle.push.specs.Of.{run_state}
 use Rattle.push.proofs.StepFacts.{step_follows_the_rules}
 use Rattle.push.proofs.RunFacts.{run_advances}
 use Rattle.push.proofs.AdvanceFacts.{run_advances_to}
@@ -8,13 +7,13 @@ use Rattle.push.proofs.run.Run.advance.Goals as goal
 pub returns-clause-makes_the_machines_steps : goal.returns-clause-makes_the_machines_steps
 returns-clause-makes_the_machines_steps c =
     let before = c.args.self.now in
-    rw (sym c.steps-steps.ensures.runs_the_budget) at (run_advances before.program c.args.budget (run_state before))
+    rw (sym c.steps-steps.ensures.runs_the_budget) at (run_advances before.program c.args.budget before.state)
 
 pub returns-clause-follows_the_rules_of_an_advance : goal.returns-clause-follows_the_rules_of_an_advance
 returns-clause-follows_the_rules_of_an_advance c =
     λ honest.
     let before = c.args.self.now in
-    let by_the_rules = run_advances_to before.program c.args.budget before.status (run_state before).machine honest.halted_at_the_exit in
+    let by_the_rules = run_advances_to before.program c.args.budget before.state.status before.state.machine honest.halted_at_the_exit in
     rw (sym c.steps-steps.ensures.runs_the_budget) at by_the_rules
 
 pub returns-clause-steps_follow_the_rules : goal.returns-clause-steps_follow_the_rules
