@@ -3,6 +3,6 @@ pub mod Rules
 pub mod Region
 pub mod Verdict
 pub mod Faults
-pub mod Of
+pub mod Views
 pub mod WellClaimed
 pub mod Flow

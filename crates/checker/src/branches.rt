@@ -16,7 +16,7 @@ struct MarkedRegion {
 }
 
 impl<L: Lattice> JobCheck<'_, L> {
-    ghost use Rattle.checker.specs.Of.{job_of};
+    ghost use Rattle.checker.specs.Views.{job_of};
 
     // The rule that label 0 breaks if it does not claim the empty stack that a run begins with. No instructions break none.
     pub(crate) fn check_entry(&self) -> Result<(), Rule>

@@ -1,6 +1,6 @@
 ghost use Rattle.std.specs.Prelude.{◌≡◌, ◌≤◌, length, map, slice_index, slice_index_or};
 ghost use Rattle.job.specs.declared.claim.Place.TheVariants.{IntegerAt};
-ghost use Rattle.job.specs.Of.{claim_says};
+ghost use Rattle.job.specs.Views.{claim_says};
 ghost use Rattle.push.specs.Language.{begins as begins_of};
 ghost use Rattle.job.specs.Records.{kind as kind_of};
 ghost use Rattle.checker.specs.Faults.{rule_answer};
@@ -23,7 +23,7 @@ struct LabelCheck<'a, L> {
 }
 
 impl<L: Lattice> LabelCheck<'_, L> {
-    ghost use Rattle.checker.specs.Of.{levels_of, job_of, order_of, claimed_of, leaves_of};
+    ghost use Rattle.checker.specs.Views.{levels_of, job_of, order_of, claimed_of, leaves_of};
 
     // The level of a variable; 0 for one that there is not.
     fn variable_level(&self, variable: u8) -> u16
@@ -192,7 +192,7 @@ impl<L: Lattice> LabelCheck<'_, L> {
         if usize::from(label) == self.check.program.len() {
             return self.depth() == 0;
         }
-        // Not by `is_some_and`: the proof does not close.
+        // Not by `is_some_and`: of a closure that calls `all_fit_under` the search finds no result.
         match self.check.job.claim(label) {
             Some(next) => self.all_fit_under(next),
             None => false,
@@ -233,7 +233,7 @@ impl<L: Lattice> LabelCheck<'_, L> {
 }
 
 impl<L: Lattice> JobCheck<'_, L> {
-    ghost use Rattle.checker.specs.Of.{levels_of, job_of};
+    ghost use Rattle.checker.specs.Views.{levels_of, job_of};
 
     // The first rule that a label breaks, if it has a claim.
     pub(crate) fn check_label(&self, label: u8) -> Result<(), Rule>

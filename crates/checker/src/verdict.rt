@@ -1,6 +1,6 @@
 ghost use Rattle.std.specs.Prelude.{◌≡◌, ◌≤◌, [], length, IfOk};
 ghost use Rattle.job.specs.Layout.{opening};
-ghost use Rattle.job.specs.Of.{sizes};
+ghost use Rattle.job.specs.Views.{sizes};
 ghost use Rattle.checker.specs.Faults.{mount_answer};
 ghost use Rattle.checker.specs.Rules.{label_rule, exit};
 ghost use Rattle.checker.specs.Verdict.{first_below, instruction_rule, claim_rule, branch_rule, code_below, rules_verdict, decoded_code, verdict as verdict_of};
@@ -50,7 +50,7 @@ fn check_records<L: Lattice>(lattice: &L, job: &Job) -> Result<(), MountFault>
 }
 
 impl<L: Lattice> JobCheck<'_, L> {
-    ghost use Rattle.checker.specs.Of.{levels_of, job_of};
+    ghost use Rattle.checker.specs.Views.{levels_of, job_of};
 
     // The first label that breaks a rule of stacks, stores and successors.
     #[tactic(auto, using(crate::proofs::FirstFacts::first_none, crate::proofs::FirstFacts::first_more))]

@@ -1,4 +1,4 @@
 pub mod Table
 pub mod Findings
 pub mod Summary
-pub mod Of
+pub mod Views

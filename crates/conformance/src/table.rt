@@ -1,7 +1,7 @@
 ghost use Rattle.std.specs.Prelude.{◌≡◌, IfOk};
 ghost use Rattle.conformance.specs.Table.{next_case};
 ghost use Rattle.conformance.specs.Findings.{agrees};
-ghost use Rattle.conformance.specs.Of.{case_bytes, case_read};
+ghost use Rattle.conformance.specs.Views.{case_bytes, case_read};
 
 use report::report;
 use std::alloc::{AllocError, Global};

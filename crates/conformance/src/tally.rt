@@ -22,7 +22,7 @@ impl<'a> Tally<'a> {
     ghost use Rattle.conformance.specs.Table.{cases, left_over};
     ghost use Rattle.conformance.specs.Findings.{agrees, findings_of, with_case};
     ghost use Rattle.conformance.specs.Summary.{is_clean as is_clean_of};
-    ghost use Rattle.conformance.specs.Of.{case_bytes, findings_in};
+    ghost use Rattle.conformance.specs.Views.{case_bytes, findings_in};
 
     // Runs one case more.
     fn note(&mut self, heap: Global, case: Case<'a>) -> Result<(), AllocError>

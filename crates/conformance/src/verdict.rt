@@ -2,7 +2,7 @@ ghost use Rattle.std.specs.Prelude.{◌≡◌, true, [], ◌++◌, IfOk, OnOk};
 ghost use Rattle.conformance.specs.Table.{cases, left_over};
 ghost use Rattle.conformance.specs.Findings.{Conforms};
 ghost use Rattle.conformance.specs.Summary.{counts_text, shown_text, difference_text, left_text, summary_text, summary as summary_of, passes};
-ghost use Rattle.conformance.specs.Of.{difference, findings_in};
+ghost use Rattle.conformance.specs.Views.{difference, findings_in};
 
 use crate::table::Case;
 use crate::tally::Tally;

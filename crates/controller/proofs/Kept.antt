@@ -20,7 +20,7 @@ use Rattle.checker.proofs.Judgement.{verdict_judged}
 use Rattle.checker.proofs.Typing.{rule_within}
 use Rattle.checker.specs.Flow.{NeverFaults, KeepsClosed}
 use Rattle.checker.proofs.Safety.{accepted_jobs_never_fault, accepted_jobs_keep_closed}
-use Rattle.controller.specs.State.{SetupState, ReadyState, RunningState, Graded, Safe, ready_with}
+use Rattle.controller.specs.State.{SetupState, ReadyState, RunningState, ThirtyTwoLevels, Safe, ready_with}
 use Rattle.controller.specs.Lists as lists
 use Rattle.controller.specs.Lists.{Call, grade, seal, mount, read, show, start, advance, end, unseal, Answer, graded, mounted, was_set, ended, State, in_setup, is_ready, is_running, Outcome, allowed, disallowed, setup_call, ready_call, running_call, outcome, after_call, transcript_from, new_controller, transcript}
 use Rattle.controller.specs.Theorem.{fault_in, stack_faults}
@@ -34,13 +34,13 @@ pub record UnderWay (code : List Instruction) (values : List ℤ) (r : RunState)
 
 -- A state over the lattice o that a list can come to.
 pub data Good (o : Order) : State → Type 0 where
-  good_setup : {levels : List ℕ} → Graded o levels → Good o (in_setup (record { lattice = o; levels = levels }))
+  good_setup : {levels : List ℕ} → ThirtyTwoLevels o levels → Good o (in_setup (record { lattice = o; levels = levels }))
   good_ready :
-      {levels : List ℕ} {values : List ℤ} {program : List Instruction} → Graded o levels → Safe o levels program → length values ≡ 32 →
+      {levels : List ℕ} {values : List ℤ} {program : List Instruction} → ThirtyTwoLevels o levels → Safe o levels program → length values ≡ 32 →
       Good o (is_ready (record { lattice = o; levels = levels; values = values; program = program }))
   good_running :
       {levels : List ℕ} {remembered : List ℤ} {program : List Instruction} {r : RunState} →
-      Graded o levels → Safe o levels program → length remembered ≡ 32 → UnderWay program remembered r →
+      ThirtyTwoLevels o levels → Safe o levels program → length remembered ≡ 32 → UnderWay program remembered r →
       Good o (is_running (record { lattice = o; levels = levels; remembered = remembered; program = program; run = r }))
 
 pub run_of : {o : Order} {s : RunningState Order} → Good o (is_running s) → Safe o s.levels s.program × UnderWay s.program s.remembered s.run
@@ -98,7 +98,7 @@ none_open o laws levels program empty w vs ws alike j k s t vs' ws' left right =
     }
 
 accepted_is_safe :
-    (o : Order) → Laws o → (levels bytes : List ℕ) → Graded o levels → (verdict o levels bytes).0 ≡ 0 →
+    (o : Order) → Laws o → (levels bytes : List ℕ) → ThirtyTwoLevels o levels → (verdict o levels bytes).0 ≡ 0 →
     Safe o levels (decoded_code bytes (opening bytes))
 accepted_is_safe o laws levels bytes g z =
     let is = accepted o levels bytes z in
@@ -110,7 +110,7 @@ accepted_is_safe o laws levels bytes g z =
     }
 
 pub mounted_is_safe :
-    (o : Order) (levels bytes : List ℕ) (program : List Instruction) → Laws o → Graded o levels → verdict o levels bytes ≡ (0, 0) →
+    (o : Order) (levels bytes : List ℕ) (program : List Instruction) → Laws o → ThirtyTwoLevels o levels → verdict o levels bytes ≡ (0, 0) →
     program ≡ decoded_code bytes (opening bytes) → Safe o levels program
 mounted_is_safe o levels bytes program laws g is same =
     subst (Safe o levels) (sym same) (accepted_is_safe o laws levels bytes g (ap (λ v. v.0) is))
@@ -140,7 +140,7 @@ pub data GoodOutcome (o : Order) : Outcome → Type 0 where
   good_allowed : {answer : Answer} {s : State} → fault_in answer ≡ 0 → Good o s → GoodOutcome o (allowed answer s)
 
 module _ (o : Order) (laws : Laws o) where
-  setup_good : (levels : List ℕ) → Graded o levels → (c : Call) → GoodOutcome o (setup_call (record { lattice = o; levels = levels }) c)
+  setup_good : (levels : List ℕ) → ThirtyTwoLevels o levels → (c : Call) → GoodOutcome o (setup_call (record { lattice = o; levels = levels }) c)
   setup_good levels g (grade v l) = by (ltb v 32) (ltb l o.span) refl refl
     where
       s : SetupState Order
@@ -158,7 +158,7 @@ module _ (o : Order) (laws : Laws o) where
   setup_good levels g _ = good_disallowed
 
   module _ (levels : List ℕ) (values : List ℤ) (program : List Instruction)
-      (g : Graded o levels) (safe : Safe o levels program) (long : length values ≡ 32) where
+      (g : ThirtyTwoLevels o levels) (safe : Safe o levels program) (long : length values ≡ 32) where
     abbrev ready : ReadyState Order
     ready = record { lattice = o; levels = levels; values = values; program = program }
 

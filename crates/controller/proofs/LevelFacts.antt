@@ -5,9 +5,9 @@ use lib.ListN.{length-replicate}
 use Rattle.std.proofs.lemmas.List.{length-set, get_or-set_same, get_or-set_other, get_or-replicate}
 use Rattle.std.proofs.lemmas.Bool.{eqb-true, eqb-false}
 use Rattle.lattice.specs.Order.{Order, Laws}
-use Rattle.controller.specs.State.{Graded}
+use Rattle.controller.specs.State.{ThirtyTwoLevels}
 
-pub highest_graded : (o : Order) → Laws o → Graded o (replicate 32 o.highest)
+pub highest_graded : (o : Order) → Laws o → ThirtyTwoLevels o (replicate 32 o.highest)
 highest_graded o laws =
     record {
       sized = length-replicate 32 o.highest;
@@ -15,7 +15,7 @@ highest_graded o laws =
           subst (λ level. level < o.span) (sym (get_or-replicate 32 v o.highest 0 small)) (laws.only_levels 0 o.highest (laws.highest_greatest 0 some)).1;
     }
 
-pub regraded : (o : Order) (levels : List ℕ) (v l : ℕ) → Graded o levels → v < 32 → l < o.span → Graded o (set levels v l)
+pub regraded : (o : Order) (levels : List ℕ) (v l : ℕ) → ThirtyTwoLevels o levels → v < 32 → l < o.span → ThirtyTwoLevels o (set levels v l)
 regraded o levels v l g small level =
     record { sized = length-set levels v l ∙ g.sized; are_levels = λ some u hu. at_variable u hu (eqb u v) refl }
   where

@@ -8,7 +8,7 @@ use Rattle.controller.specs.declared.call.Call as code
 use Rattle.controller.specs.declared.answer.Answer as code_answer
 use Rattle.controller.specs.declared.answer.Answer.TheVariants.{NotAllowed}
 use Rattle.controller.specs.declared.phase.Phase.{Phase}
-use Rattle.controller.specs.Of.{call_of, answer_of, state_of, outcome_of}
+use Rattle.controller.specs.Views.{call_of, answer_of, state_of, outcome_of}
 use Rattle.controller.specs.Lists.{Call, Answer, State, Outcome, allowed, disallowed, not_allowed, outcome, after_call, transcript_from}
 
 -- The answers from a call's outcome on.

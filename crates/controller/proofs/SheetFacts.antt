@@ -60,7 +60,7 @@ module _ (o : Order) (levels : List ℕ) (values : List ℤ) (observer : ℕ) wh
   pub room : (n : ℕ) → n < 32 → is_open o levels observer n ≡ true → 5 * open_below o levels observer n + 5 ≤ 5 * open_below o levels observer 32
   room n h k = let more = open_more n in let grows = open_grows (n + 1) 32 (omega arith) in grind (arith, k)
 
--- The values beside the levels, with their numbers: at the place n are those of the variable n.
+-- The values beside the levels, with their numbers: at the position n are those of the variable n.
 pub pair_at : (values : List ℤ) (levels : List ℕ) (n : ℕ) (x : ℕ × (ℤ × ℕ)) →
     (n < length (enumerate_from 0 (zip values levels))) × (x ≡ get_or (enumerate_from 0 (zip values levels)) n x) →
     x ≡ (n, (get_or values n (pos 0), get_or levels n 0))

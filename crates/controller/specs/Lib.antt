@@ -3,5 +3,5 @@ pub mod State
 pub mod Sheet
 pub mod Lists
 pub mod Calls
-pub mod Of
+pub mod Views
 pub mod Theorem

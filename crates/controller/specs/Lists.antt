@@ -1,5 +1,5 @@
 -- Lists of calls on one controller, and their transcripts. A call and an answer are those of the Rust enums with numbers
--- in place of results and lists in place of slices; Of.antt turns the ones into the others. Assumes nothing.
+-- in place of results and lists in place of slices; Views.antt turns the ones into the others. Assumes nothing.
 use Rattle.std.specs.Prelude.{ℕ, ◌+◌, ◌*◌, List, [], ◌∷◌, take, replicate, ℤ}
 use Rattle.lattice.specs.Order.{Order}
 use Rattle.controller.specs.State.{SetupState, ReadyState, RunningState, new_state, grade_outcome, sealed_state, set_outcome, read_outcome, mount_outcome, unsealed_state, started_state, advance_outcome, end_outcome}

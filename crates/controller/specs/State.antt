@@ -29,7 +29,7 @@ pub record RunningState (L : Type 0) : Type 0 where
   pub run : RunState
 
 -- What is true of the levels in every state: there are 32, each a level of the lattice where that has levels.
-pub record Graded (o : Order) (levels : List ℕ) : Type 0 where
+pub record ThirtyTwoLevels (o : Order) (levels : List ℕ) : Type 0 where
   pub sized : length levels ≡ 32
   pub are_levels : 0 < o.span → LevelsOfVariables o levels
 

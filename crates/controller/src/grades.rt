@@ -22,7 +22,9 @@ impl<L: Lattice> Grades<L> {
     // How many variables are open to an observer.
     pub(crate) fn count_open(&self, observer: u16) -> usize
         ensures { result
-            ≡ count_by (λ level. (L.Lattice.order self.now.lattice).at_most level observer) self.now.levels }
+            ≡ count_by
+            (λ level. (L.Lattice.order self.now.lattice).at_most level observer)
+            self.now.levels }
     {
         self.levels
             .iter()

@@ -1,4 +1,5 @@
-// The controller: variables with levels and values, its states as types, runs, and the sheet that an observer may see.
+//! The controller: variables with levels and values, its states as types (`Setup`, `Ready`, `Running`), and the sheet that
+//! an observer may see. `transcript` and `two_transcripts` perform lists of calls, and their contracts hold the theorem.
 #![tactic(auto)]
 
 mod answer;

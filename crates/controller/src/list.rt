@@ -1,7 +1,7 @@
 ghost use Rattle.std.specs.Prelude.{◌≡◌, ℕ, map, IfOk};
 ghost use Rattle.controller.specs.Calls.{AnswersOf, TranscriptFollowsTheRules};
 ghost use Rattle.controller.specs.Theorem.{stack_faults, NoStackFaults, ShownTheSameIfAlike, ClosedValuesStayClosed};
-ghost use Rattle.controller.specs.Of.{call_of, answer_of, Transcribes};
+ghost use Rattle.controller.specs.Views.{call_of, answer_of, Transcribes};
 
 use crate::answer::Answer;
 use crate::call::Call;
@@ -44,7 +44,8 @@ pub fn transcript<L: Lattice + Drop>(
         AnswersOf (L.Lattice.order lattice) (map call_of calls.now) (map answer_of answers.items)) }
     ensures transcript_follows_the_rules { TranscriptFollowsTheRules (L.Lattice.order lattice) }
     ensures no_stack_faults { NoStackFaults (L.Lattice.order lattice) }
-    ensures closed_values_stay_closed { ClosedValuesStayClosed (L.Lattice.order lattice) (map call_of calls.now) }
+    ensures closed_values_stay_closed { ClosedValuesStayClosed
+        (L.Lattice.order lattice) (map call_of calls.now) }
 {
     perform(heap, lattice, calls)
 }

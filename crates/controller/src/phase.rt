@@ -1,7 +1,7 @@
 ghost use Rattle.std.specs.Prelude.{◌≡◌, replicate, IfOk};
 ghost use Rattle.controller.specs.Sheet.{show_outcome};
 ghost use Rattle.controller.specs.Lists.{sheet_shown, setup_call, ready_call, running_call, outcome};
-ghost use Rattle.controller.specs.Of.{setup_of, ready_of, running_of, call_of, sheet_answer, state_of, outcome_of};
+ghost use Rattle.controller.specs.Views.{setup_of, ready_of, running_of, call_of, sheet_answer, state_of, outcome_of};
 
 use crate::answer::Answer;
 use crate::call::Call;

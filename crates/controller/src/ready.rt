@@ -26,7 +26,7 @@ pub struct Ready<L: Lattice> {
 
 impl<L: Lattice> Model for Ready<L> {
     ghost use Rattle.std.specs.Prelude.{◌≡◌, length};
-    ghost use Rattle.controller.specs.State.{ReadyState, Graded};
+    ghost use Rattle.controller.specs.State.{ReadyState, ThirtyTwoLevels};
 
     ghost Value = { ReadyState L };
 
@@ -37,7 +37,7 @@ impl<L: Lattice> Model for Ready<L> {
       program = s.program;
     } };
 
-    ghost invariant = { λ s. Graded (L.Lattice.order s.grades.lattice) s.grades.levels
+    ghost invariant = { λ s. ThirtyTwoLevels (L.Lattice.order s.grades.lattice) s.grades.levels
         × (length s.values ≡ 32) };
 }
 
@@ -57,7 +57,8 @@ impl<L: Lattice> Ready<L> {
 
     /// Writes the value of one of the variables 0 to 31.
     pub fn set(&mut self, variable: u8, value: i32) -> Result<(), Refusal>
-        ensures sets_or_refuses { (done_answer result, self.new) ≡ set_outcome self.old variable value }
+        ensures sets_or_refuses { (done_answer result, self.new)
+            ≡ set_outcome self.old variable value }
         ensures refused_changes_nothing { IfErr result (λ _. self.new ≡ self.old) }
     {
         let index = index_of(variable)?;
@@ -99,7 +100,8 @@ impl<L: Lattice> Ready<L> {
         requires { 5 * open_count (L.Lattice.order self.now.lattice) self.now.levels observer
             ≤ length buffer.old }
         ensures { buffer.new
-            ≡ sheet_in_front (L.Lattice.order self.now.lattice) self.now.levels self.now.values observer buffer.old }
+            ≡ sheet_in_front (L.Lattice.order self.now.lattice) self.now.levels
+            self.now.values observer buffer.old }
     {
         // By a place in the buffer: where the slice of what is left is moved on, a proof knows its length alone.
         let mut at = 0;

@@ -1,5 +1,5 @@
 ghost use Rattle.std.specs.Prelude.{◌≡◌};
-ghost use Rattle.push.specs.Run.{Advanced};
+ghost use Rattle.push.specs.Run.{CountedSteps};
 ghost use Rattle.controller.specs.Answers.{advance_answer, ending_number};
 ghost use Rattle.controller.specs.State.{advance_outcome, end_outcome};
 
@@ -21,7 +21,7 @@ pub struct Running<L: Lattice> {
 
 impl<L: Lattice> Model for Running<L> {
     ghost use Rattle.std.specs.Prelude.{◌≡◌, length};
-    ghost use Rattle.controller.specs.State.{RunningState, Graded};
+    ghost use Rattle.controller.specs.State.{RunningState, ThirtyTwoLevels};
 
     ghost Value = { RunningState L };
 
@@ -33,22 +33,25 @@ impl<L: Lattice> Model for Running<L> {
       run = s.run.state;
     } };
 
-    ghost invariant = { λ s. Graded (L.Lattice.order s.grades.lattice) s.grades.levels
+    ghost invariant = { λ s. ThirtyTwoLevels (L.Lattice.order s.grades.lattice) s.grades.levels
         × (length s.remembered ≡ 32) };
 }
 
 impl<L: Lattice> Running<L> {
     /// Makes steps until the run stops or `budget` are made, and answers the status and how many.
     pub fn advance(&mut self, budget: u32) -> (Status, u32)
-        ensures advances_the_run { (advance_answer result, self.new) ≡ advance_outcome self.old budget }
-        ensures counted_steps_are_the_machines { Advanced self.old.program budget result.1 self.old.run self.new.run }
+        ensures advances_the_run { (advance_answer result, self.new)
+            ≡ advance_outcome self.old budget }
+        ensures counted_steps_are_the_machines { CountedSteps
+            self.old.program budget result.1 self.old.run self.new.run }
     {
         self.run.advance(budget)
     }
 
     /// Keeps the values of a run that has halted, and brings back the remembered ones of any other.
     pub fn end(self) -> (Ready<L>, Ending)
-        ensures keeps_halted_values_or_brings_back { (ending_number result.1, result.0) ≡ end_outcome self }
+        ensures keeps_halted_values_or_brings_back { (ending_number result.1, result.0)
+            ≡ end_outcome self }
     {
         let (status, program, reached) = self.run.finish();
         let (values, ending) = match status {

@@ -18,13 +18,13 @@ pub struct Setup<L: Lattice> {
 }
 
 impl<L: Lattice> Model for Setup<L> {
-    ghost use Rattle.controller.specs.State.{SetupState, Graded};
+    ghost use Rattle.controller.specs.State.{SetupState, ThirtyTwoLevels};
 
     ghost Value = { SetupState L };
 
     ghost view = { λ s. record { lattice = s.grades.lattice; levels = s.grades.levels } };
 
-    ghost invariant = { λ s. Graded (L.Lattice.order s.grades.lattice) s.grades.levels };
+    ghost invariant = { λ s. ThirtyTwoLevels (L.Lattice.order s.grades.lattice) s.grades.levels };
 }
 
 impl<L: Lattice> Setup<L> {

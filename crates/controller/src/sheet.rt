@@ -25,7 +25,7 @@ pub struct Sheet {
 }
 
 impl Sheet {
-    ghost use Rattle.controller.specs.Of.{sheet_count};
+    ghost use Rattle.controller.specs.Views.{sheet_count};
 
     /// How many variables it holds.
     pub fn count(&self) -> usize

@@ -6,7 +6,7 @@ use Rattle.job.specs.declared.claim.Claim.{Claim}
 use Rattle.job.specs.declared.claim.Place.{Place}
 use Rattle.job.specs.declared.reader.Job.{Job}
 use Rattle.job.specs.Layout.{record_at}
-use Rattle.job.specs.Of.{sizes, claim_says}
+use Rattle.job.specs.Views.{sizes, claim_says}
 use Rattle.job.specs.Records.{place_in, stack_in}
 
 pub stack_length : (bytes : List ℕ) (depth : ℕ) → length (stack_in bytes depth) ≡ depth

@@ -1,4 +1,4 @@
 pub mod Faults
 pub mod Layout
 pub mod Records
-pub mod Of
+pub mod Views

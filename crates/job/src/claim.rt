@@ -3,7 +3,7 @@ ghost use Rattle.job.specs.Faults.{record_answer};
 ghost use Rattle.job.specs.Layout.{claim_place, claim_record};
 ghost use Rattle.job.specs.Records.{all_below, two, like_a_place, like_a_claim, claim_in, place_in, kind as kind_of, level as level_of};
 ghost use Rattle.job.specs.declared.claim.Place.TheVariants.{IntegerAt};
-ghost use Rattle.job.specs.Of.{sizes, claim_says, claimed};
+ghost use Rattle.job.specs.Views.{sizes, claim_says, claimed};
 
 use crate::fault::RecordFault;
 use crate::part::{byte, tail, two, zeros};

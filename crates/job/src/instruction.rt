@@ -1,7 +1,7 @@
 ghost use Rattle.std.specs.Prelude.{◌≡◌};
 ghost use Rattle.job.specs.Layout.{instruction_record};
 ghost use Rattle.job.specs.Records.{decoded, instruction_in, instruction_read};
-ghost use Rattle.job.specs.Of.{sizes};
+ghost use Rattle.job.specs.Views.{sizes};
 
 use crate::fault::RecordFault;
 use crate::reader::Job;

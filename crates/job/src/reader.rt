@@ -1,6 +1,6 @@
 ghost use Rattle.std.specs.Prelude.{◌≡◌, ◌<◌, IfOk};
 ghost use Rattle.job.specs.Layout.{opening, instruction_place, instruction_record, claim_length, claim_place, claim_record, record_at};
-ghost use Rattle.job.specs.Of.{sizes, sizes_read};
+ghost use Rattle.job.specs.Views.{sizes, sizes_read};
 
 use crate::fault::ReadFault;
 use crate::part::part;

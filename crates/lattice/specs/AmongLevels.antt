@@ -6,19 +6,25 @@ use Rattle.lattice.specs.Order.{Laws}
 use Rattle.lattice.specs.Kinds.{levels, among_levels}
 
 -- The laws for levels alone, each answer with the fact that it is a level.
-pub record Sound (s : ℕ) (at_most : ℕ → ℕ → Bool) (join meet : ℕ → ℕ → ℕ) (lowest highest : ℕ) : Type 0 where
+pub record Sound
+    (s : ℕ) (at_most : ℕ → ℕ → Bool) (join meet : ℕ → ℕ → ℕ) (lowest highest : ℕ) : Type 0 where
   pub bound : s ≤ 65536
   pub reflexive : (a : ℕ) → a < s → at_most a a ≡ true
-  pub transitive : (a b c : ℕ) → a < s → b < s → c < s → at_most a b ≡ true → at_most b c ≡ true → at_most a c ≡ true
+  pub transitive :
+      (a b c : ℕ) → a < s → b < s → c < s → at_most a b ≡ true → at_most b c ≡ true → at_most a c ≡ true
   pub antisymmetric : (a b : ℕ) → a < s → b < s → at_most a b ≡ true → at_most b a ≡ true → a ≡ b
   pub join_level : (a b : ℕ) → a < s → b < s → join a b < s
   pub join_left : (a b : ℕ) → a < s → b < s → at_most a (join a b) ≡ true
   pub join_right : (a b : ℕ) → a < s → b < s → at_most b (join a b) ≡ true
-  pub join_least : (a b c : ℕ) → a < s → b < s → c < s → at_most a c ≡ true → at_most b c ≡ true → at_most (join a b) c ≡ true
+  pub join_least :
+      (a b c : ℕ) → a < s → b < s → c < s →
+      at_most a c ≡ true → at_most b c ≡ true → at_most (join a b) c ≡ true
   pub meet_level : (a b : ℕ) → a < s → b < s → meet a b < s
   pub meet_left : (a b : ℕ) → a < s → b < s → at_most (meet a b) a ≡ true
   pub meet_right : (a b : ℕ) → a < s → b < s → at_most (meet a b) b ≡ true
-  pub meet_greatest : (a b c : ℕ) → a < s → b < s → c < s → at_most c a ≡ true → at_most c b ≡ true → at_most c (meet a b) ≡ true
+  pub meet_greatest :
+      (a b c : ℕ) → a < s → b < s → c < s →
+      at_most c a ≡ true → at_most c b ≡ true → at_most c (meet a b) ≡ true
   pub lowest_level : 0 < s → lowest < s
   pub lowest_least : (a : ℕ) → a < s → at_most lowest a ≡ true
   pub highest_level : 0 < s → highest < s

@@ -7,8 +7,8 @@ use Rattle.push.specs.declared.instruction.Instruction.{Instruction}
 use Rattle.push.specs.Machine.{Machine, at, step, perform, ◌⊢◌⟶◌}
 use Rattle.push.specs.declared.status.Status.{Status}
 use Rattle.push.specs.declared.status.Status.TheVariants.{Going, Halted, Faulted}
-use Rattle.push.specs.Of.{next, stepped, settled}
-use Rattle.push.specs.Run.{RunState, ProgramRun, one_step, step_or_fault, arrived, run, is_going, is_halted, label_of, Steps, none, more, TrueStatus, NewRunsAreTrue, Advanced}
+use Rattle.push.specs.Stepped.{next, stepped, settled}
+use Rattle.push.specs.Run.{RunState, ProgramRun, one_step, step_or_fault, arrived, run, is_going, is_halted, label_of, Steps, none, more, TrueStatus, NewRunsAreTrue, CountedSteps}
 use Rattle.push.proofs.StepFacts.{rule_steps, steps_by_rule}
 
 -- Some steps before a run of more.
@@ -180,7 +180,7 @@ module _ (code : List Instruction) where
           (subst (λ r. code ⊢ m ⟶ r.machine) same (steps_by_rule code m n made), subst (TrueStatus code) same (arrived_true n))
 
   -- whole runs
-  pub run_advances : (budget : ℕ) (r : RunState) → Advanced code budget (run code budget r).0 r (run code budget r).1
+  pub run_advances : (budget : ℕ) (r : RunState) → CountedSteps code budget (run code budget r).0 r (run code budget r).1
   run_advances zero r = rw (run_none r) (record {
     machine_steps = none;
     within_budget = omega arith;
@@ -190,8 +190,8 @@ module _ (code : List Instruction) where
   run_advances (suc budget) r = by (one_step code r.status r.machine).0 (one_step code r.status r.machine).1 refl (run_advances budget)
     where
       by : (b : Bool) (after : RunState) → one_step code r.status r.machine ≡ (b, after)
-          → ((s : RunState) → Advanced code budget (run code budget s).0 s (run code budget s).1)
-          → Advanced code (suc budget) (run code (suc budget) r).0 r (run code (suc budget) r).1
+          → ((s : RunState) → CountedSteps code budget (run code budget s).0 s (run code budget s).1)
+          → CountedSteps code (suc budget) (run code (suc budget) r).0 r (run code (suc budget) r).1
       by true after e rest =
           let unfolds : run code (suc budget) r ≡ counted 1 (run code budget after) = made_one budget r after e in
           let made = went_on r.status r.machine after e in

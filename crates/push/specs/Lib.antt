@@ -3,4 +3,4 @@ pub mod Code
 pub mod Numbers
 pub mod Machine
 pub mod Run
-pub mod Of
+pub mod Stepped

@@ -92,7 +92,7 @@ NewRunsAreTrue =
     (code : List Instruction) (values : List ℤ) → TrueStatus code (begun code values)
 
 -- What an advance with a budget makes of a run when it answers a count.
-pub record Advanced
+pub record CountedSteps
     (code : List Instruction) (budget count : ℕ) (before after : RunState) : Type 0 where
   pub machine_steps : Steps code count before.machine after.machine
   pub within_budget : count ≤ budget

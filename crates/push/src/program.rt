@@ -2,8 +2,9 @@ use crate::INSTRUCTIONS;
 use crate::instruction::Instruction;
 use arrayvec::ArrayVec;
 use std::marker::Model;
+use thiserror::Error;
 
-/// A list of at most 128 instructions; an instruction's place in it is its label. It owns them, so that a run needs
+/// A list of at most 128 instructions; an instruction's position in it is its label. It owns them, so that a run needs
 /// nothing else.
 #[derive(Drop)]
 pub struct Program {
@@ -11,7 +12,8 @@ pub struct Program {
 }
 
 /// Why an instruction was not added: there are 128 already.
-#[derive(Clone, Copy, PartialEq, Eq, Debug)]
+#[derive(Clone, Copy, PartialEq, Eq, Debug, Error)]
+#[error("there are 128 instructions already")]
 pub struct ProgramFull;
 
 // In a clause a program is the list of its instructions.

@@ -1,6 +1,6 @@
 ghost use Rattle.std.specs.Prelude.{◌≡◌, ◌+◌, ◌<◌, ◌≤◌, true, [], ◌∷◌, length, drop, is_some, Some, None, MatchOption};
 ghost use Rattle.push.specs.Machine.{at, pushed, loaded, stored, negated, branched, integers_on, integer_on, flag_on, StepFollowsTheRules};
-ghost use Rattle.push.specs.Run.{label_of, stack_of, values_of, begun, run, Advanced, TrueStatus, AdvancesTo, NewRunsAreTrue};
+ghost use Rattle.push.specs.Run.{label_of, stack_of, values_of, begun, run, CountedSteps, TrueStatus, AdvancesTo, NewRunsAreTrue};
 
 use crate::VARIABLES;
 use crate::instruction::Instruction;
@@ -38,7 +38,7 @@ impl Model for Run {
 
 // That the label is below 128 holds only where it has an instruction, so it is a clause of the calls that a step makes.
 impl Run {
-    ghost use Rattle.push.specs.Of.{next, stepped, stepped_by, settled};
+    ghost use Rattle.push.specs.Stepped.{next, stepped, stepped_by, settled};
 
     /// A run at label 0 with an empty stack, on the values of the variables. Without instructions it has halted.
     pub fn begin(program: Program, values: [i32; VARIABLES]) -> Self
@@ -65,7 +65,7 @@ impl Run {
             ≡ run self.old.program budget self.old.state }
         ensures answers_the_status { result.0 ≡ self.new.state.status }
         ensures same_program { self.new.program ≡ self.old.program }
-        ensures makes_the_machines_steps { Advanced
+        ensures makes_the_machines_steps { CountedSteps
             self.old.program budget result.1 self.old.state self.new.state }
         ensures follows_the_rules_of_an_advance { TrueStatus self.old.program self.old.state
             → AdvancesTo

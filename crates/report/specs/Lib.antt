@@ -1,4 +1,4 @@
 pub mod Input
 pub mod Report
 pub mod Outcomes
-pub mod Of
+pub mod Views

@@ -1,6 +1,6 @@
 ghost use Rattle.std.specs.Prelude.{◌≡◌, map, IfOk};
 ghost use Rattle.controller.specs.Lists.{grade as grade_of, set as set_of};
-ghost use Rattle.controller.specs.Of.{call_of};
+ghost use Rattle.controller.specs.Views.{call_of};
 ghost use Rattle.report.specs.Input.{level, value, calls as calls_of};
 
 use crate::input::Input;

@@ -1,7 +1,7 @@
 ghost use Rattle.std.specs.Prelude.{◌≡◌, IfOk, string_bytes};
 ghost use Rattle.report.specs.Report.{transcript_text, report as report_of};
 ghost use Rattle.report.specs.Outcomes.{ReportIsTheOutcomes};
-ghost use Rattle.report.specs.Of.{ReadsKind, IsTextUnlessNoMemory};
+ghost use Rattle.report.specs.Views.{ReadsKind, IsTextUnlessNoMemory};
 
 use crate::calls::calls;
 use crate::input::Input;

@@ -1,7 +1,7 @@
 ghost use Rattle.std.specs.Prelude.{◌≡◌, ◌/◌, ◌++◌, length, map, IfOk, string_bytes, OnOk};
 ghost use Rattle.checker.specs.Faults.{mount_answer as mount_answer_of};
-ghost use Rattle.controller.specs.Of.{answer_of};
-ghost use Rattle.report.specs.Of.{IsTextUnlessNoMemory};
+ghost use Rattle.controller.specs.Views.{answer_of};
+ghost use Rattle.report.specs.Views.{IsTextUnlessNoMemory};
 ghost use Rattle.report.specs.Report.{bad_input as bad_input_text, sheet_text, mount_line, answer_lines, is_refused as is_refused_of, answers_text as answers_text_of};
 
 use crate::no_report::NoReport;

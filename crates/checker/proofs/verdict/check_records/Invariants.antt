@@ -1,5 +1,5 @@
 use Rattle.std.proofs.Common.{◌≡◌}
-use Rattle.job.specs.Of.{sizes}
+use Rattle.job.specs.Views.{sizes}
 use Rattle.checker.specs.Verdict.{first_below, claim_rule}
 use Rattle.checker.proofs.verdict.check_records.Given as goal
 

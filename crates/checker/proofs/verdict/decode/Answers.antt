@@ -1,7 +1,7 @@
 use Rattle.std.proofs.Common.{rules, ◌≡◌, ◌+◌, ◌<◌, Result, Ok, Err, IsOk, OnOk, [], ◌∷◌, ◌++◌, length, sym, ap, ◌∙◌, arith, length-append}
 use Rattle.std.proofs.lemmas.Bool.{true≢false}
 use Rattle.std.proofs.lemmas.Result.{err_from_is_err_and}
-use Rattle.job.specs.Of.{sizes}
+use Rattle.job.specs.Views.{sizes}
 use Rattle.job.specs.Records.{instruction_read}
 use Rattle.checker.specs.Verdict.{instruction_at, instruction_rule, unlike_instruction}
 use Rattle.checker.proofs.DecodeFacts.{code_none, code_more, was_read, not_read, of_record}

@@ -1,5 +1,5 @@
 use Rattle.std.proofs.Common.{◌≡◌, length}
-use Rattle.job.specs.Of.{sizes}
+use Rattle.job.specs.Views.{sizes}
 use Rattle.checker.specs.Verdict.{first_below, instruction_rule, code_below}
 use Rattle.checker.proofs.verdict.decode.Given as goal
 

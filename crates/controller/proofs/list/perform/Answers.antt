@@ -1,7 +1,7 @@
 use Rattle.std.proofs.Common.{map, vec_items, ap, ◌∙◌}
 use Rattle.controller.specs.State.{SetupState}
 use Rattle.controller.specs.Lists.{in_setup, transcript_from}
-use Rattle.controller.specs.Of.{call_of, setup_of}
+use Rattle.controller.specs.Views.{call_of, setup_of}
 use Rattle.controller.proofs.ListFacts.{answered_turn, disallowed_turn, last_turn}
 use Rattle.controller.proofs.list.perform.Goals as goal
 

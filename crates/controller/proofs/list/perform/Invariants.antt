@@ -1,6 +1,6 @@
 use Rattle.std.proofs.Common.{◌≡◌, ◌++◌, map, drop, vec_items}
 use Rattle.controller.specs.Lists.{transcript_from}
-use Rattle.controller.specs.Of.{call_of, answer_of, state_of}
+use Rattle.controller.specs.Views.{call_of, answer_of, state_of}
 use Rattle.controller.proofs.list.perform.Given as goal
 
 -- The answers so far and those of the calls that are left are those of the whole list.

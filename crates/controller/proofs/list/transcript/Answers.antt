@@ -1,7 +1,7 @@
 use Rattle.std.proofs.Common.{map, sym, subst}
 use Rattle.std.proofs.lemmas.Result.{IfOk-weaker}
 use Rattle.controller.specs.Calls.{AnswersOf}
-use Rattle.controller.specs.Of.{call_of}
+use Rattle.controller.specs.Views.{call_of}
 use Rattle.controller.proofs.Kept.{no_stack_faults}
 use Rattle.controller.proofs.CallRules.{answers_of_transcript, transcript_follows_the_rules}
 use Rattle.controller.proofs.Pairs.{closed_values_stay_closed}

@@ -3,7 +3,7 @@ use Rattle.std.proofs.lemmas.Result.{IfOk-weaker}
 use Rattle.controller.specs.Calls.{AnswersOf}
 use Rattle.controller.specs.Theorem.{stack_faults, ShownTheSameIfAlike}
 use Rattle.controller.specs.Lists.{transcript}
-use Rattle.controller.specs.Of.{call_of, answer_of}
+use Rattle.controller.specs.Views.{call_of, answer_of}
 use Rattle.controller.proofs.Kept.{no_stack_faults}
 use Rattle.controller.proofs.CallRules.{answers_of_transcript}
 use Rattle.controller.proofs.Pairs.{closed_values_stay_closed}
@@ -33,6 +33,7 @@ returns g c =
           IfOk-weaker c.perform_both.result _ _
           (λ both e observer.
           subst (λ left. ShownTheSameIfAlike o calls others left (map answer_of (vec_items both.1)) observer) (sym e.0)
-          (subst (λ right. ShownTheSameIfAlike o calls others (transcript o calls) right observer) (sym e.1) (closed_values_stay_closed o laws calls observer others)))
+          (subst (λ right. ShownTheSameIfAlike o calls others (transcript o calls) right observer) (sym e.1)
+          (closed_values_stay_closed o laws calls observer others)))
           made;
     }

@@ -3,7 +3,7 @@ use Rattle.std.specs.Array.Iter.{array_into_iter_items}
 use Rattle.std.proofs.lemmas.Iterator.{YieldsList-from_map_by, YieldsList-from_range}
 use Rattle.std.proofs.lemmas.Iterator.Consumers.{YieldsList-from_chain}
 use Rattle.controller.specs.Lists.{grade, set}
-use Rattle.controller.specs.Of.{call_of}
+use Rattle.controller.specs.Views.{call_of}
 use Rattle.report.specs.Input.{level, value, each, calls}
 use Rattle.report.proofs.CallFacts.{from_array, from_collect, all_parts}
 use Rattle.report.proofs.calls.calls.Goals as goal

@@ -4,7 +4,7 @@ use Rattle.lattice.specs.Kinds.{ladder, owners, flip, pair}
 use Rattle.report.specs.declared.no_report.NoReport.{NoReport}
 use Rattle.report.specs.Input.{fits, kind}
 use Rattle.report.specs.Report.{transcript_text, input_text}
-use Rattle.report.specs.Of.{IsTextUnlessNoMemory}
+use Rattle.report.specs.Views.{IsTextUnlessNoMemory}
 use Rattle.report.proofs.kinds.report_on.Goals as goal
 
 over_named : {Z : Type 0} (text_over : Order → List ℕ → List ℕ) (bytes : List ℕ) (o made : Order) (text : Result (String Z) NoReport) → true ≡ fits bytes →

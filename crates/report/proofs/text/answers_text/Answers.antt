@@ -3,7 +3,7 @@ use Rattle.std.specs.List.{flat_map}
 use Rattle.std.proofs.lemmas.Iterator.{YieldsList-from_slice}
 use Rattle.std.proofs.lemmas.Iterator.Search.{any_from_yields_List}
 use Rattle.std.proofs.lemmas.List.Folds.{flat_map-map}
-use Rattle.controller.specs.Of.{answer_of}
+use Rattle.controller.specs.Views.{answer_of}
 use Rattle.report.specs.Report.{answer_lines, is_refused}
 use Rattle.report.proofs.CallFacts.{viewed}
 use Rattle.report.proofs.text.answers_text.Goals as goal

@@ -1,6 +1,6 @@
 use Rattle.std.proofs.Common.{◌≡◌, take, string_bytes}
 use Rattle.std.specs.List.{flat_map}
-use Rattle.controller.specs.Of.{answer_of}
+use Rattle.controller.specs.Views.{answer_of}
 use Rattle.report.specs.Report.{answer_lines}
 use Rattle.report.proofs.text.answers_text.Given as goal
 

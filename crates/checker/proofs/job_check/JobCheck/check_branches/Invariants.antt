@@ -1,6 +1,6 @@
 use Rattle.std.proofs.Common.{◌≡◌}
 use Rattle.checker.specs.Verdict.{first_below, branch_rule}
-use Rattle.checker.specs.Of.{job_of}
+use Rattle.checker.specs.Views.{job_of}
 use Rattle.checker.proofs.job_check.JobCheck.check_branches.Given as goal
 
 abbrev pub invariant-loop-label : goal.invariant-loop-label

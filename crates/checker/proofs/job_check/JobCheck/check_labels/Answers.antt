@@ -1,7 +1,7 @@
 use Rattle.std.proofs.Common.{◌≡◌, sym, ap, ◌∙◌, arith}
 use Rattle.checker.specs.Faults.{rule_number, rule_answer}
 use Rattle.checker.specs.Rules.{label_rule, exit}
-use Rattle.checker.specs.Of.{levels_of, job_of}
+use Rattle.checker.specs.Views.{levels_of, job_of}
 use Rattle.checker.proofs.FirstFacts.{first_found, rule_is_some}
 use Rattle.checker.proofs.job_check.JobCheck.check_labels.Goals as goal
 

@@ -1,7 +1,7 @@
 use Rattle.std.proofs.Common.{◌≡◌}
 use Rattle.checker.specs.Rules.{label_rule}
 use Rattle.checker.specs.Verdict.{first_below}
-use Rattle.checker.specs.Of.{levels_of, job_of}
+use Rattle.checker.specs.Views.{levels_of, job_of}
 use Rattle.checker.proofs.job_check.JobCheck.check_labels.Given as goal
 
 abbrev pub invariant-loop-label : goal.invariant-loop-label

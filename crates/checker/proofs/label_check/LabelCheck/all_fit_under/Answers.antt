@@ -3,9 +3,9 @@ use Rattle.std.proofs.lemmas.Bool.{ne_eqb}
 use Rattle.std.proofs.lemmas.Iterator.{YieldsList-from_range}
 use Rattle.std.proofs.lemmas.Iterator.Search.{all_from_yields_List}
 use Rattle.job.specs.declared.claim.Place.TheVariants.{IntegerAt}
-use Rattle.job.specs.Of.{claim_says}
+use Rattle.job.specs.Views.{claim_says}
 use Rattle.job.proofs.Stacks.{depth_said}
-use Rattle.checker.specs.Of.{leaves_of}
+use Rattle.checker.specs.Views.{leaves_of}
 use Rattle.checker.proofs.LeavingFacts.{lengths_differ, fits_at, all_fit_at}
 use Rattle.checker.proofs.label_check.LabelCheck.all_fit_under.Goals as goal
 

@@ -5,7 +5,7 @@ use Rattle.std.proofs.lemmas.Iterator.Search.{all_from_yields_List}
 use Rattle.push.proofs.KindFacts.{eq_is_same_kind}
 use Rattle.job.specs.declared.claim.Place.TheVariants.{IntegerAt}
 use Rattle.job.proofs.Stacks.{depth_said}
-use Rattle.checker.specs.Of.{claimed_of}
+use Rattle.checker.specs.Views.{claimed_of}
 use Rattle.checker.proofs.KindFacts.{has_kind, begins_at, too_many}
 use Rattle.checker.proofs.label_check.LabelCheck.begins.Goals as goal
 

@@ -2,7 +2,7 @@ use Rattle.std.proofs.Common.{is_some, ap, arith}
 use mir.Val.{bool_byte}
 use Rattle.push.specs.Language.{pushes}
 use Rattle.job.proofs.Stacks.{depth_said}
-use Rattle.checker.specs.Of.{claimed_of}
+use Rattle.checker.specs.Views.{claimed_of}
 use Rattle.checker.proofs.LeavingFacts.{leaves_length, one_if_some}
 use Rattle.checker.proofs.label_check.LabelCheck.depth.Goals as goal
 

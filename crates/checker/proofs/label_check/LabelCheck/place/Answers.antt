@@ -2,7 +2,7 @@ use Rattle.std.proofs.Common.{◌≡◌, ◌+◌, ◌-◌, ◌<◌, length, get_
 use Rattle.push.specs.Language.{pops}
 use Rattle.job.specs.declared.claim.Place.TheVariants.{IntegerAt}
 use Rattle.checker.specs.Leaving.{pushed_place, raised}
-use Rattle.checker.specs.Of.{claimed_of, leaves_of}
+use Rattle.checker.specs.Views.{claimed_of, leaves_of}
 use Rattle.checker.proofs.LeavingFacts.{below_none, below_pushed}
 use Rattle.checker.proofs.label_check.LabelCheck.place.Goals as goal
 use Rattle.checker.proofs.label_check.LabelCheck.place.Goals.{in-Some-default, in-None-default}

@@ -2,7 +2,7 @@ use Rattle.std.proofs.Common.{rules, tests, ap, ◌∙◌}
 use Rattle.std.specs.List.{list_all}
 use Rattle.std.proofs.lemmas.Iterator.Search.{all_from_yields_List}
 use Rattle.checker.specs.Rules.{takes}
-use Rattle.checker.specs.Of.{job_of, leaves_of}
+use Rattle.checker.specs.Views.{job_of, leaves_of}
 use Rattle.checker.proofs.SuccessorFacts.{YieldsList-from_options}
 use Rattle.checker.proofs.label_check.LabelCheck.successors_take.Goals as goal
 

@@ -1,6 +1,6 @@
 use Rattle.std.proofs.Common.{◌≡◌, length, sym, refl, ap, ◌∙◌, arith}
 use Rattle.conformance.specs.Table.{after_case, left_over}
-use Rattle.conformance.specs.Of.{findings_in, case_bytes}
+use Rattle.conformance.specs.Views.{findings_in, case_bytes}
 use Rattle.conformance.proofs.Walk.{was_some, was_none, after_shorter, cases_none, left_more, left_none}
 use Rattle.conformance.proofs.Turn.{onward, turn, room, onward_first, onward_none}
 use Rattle.conformance.proofs.tally.Tally.count.Goals as goal

@@ -1,7 +1,7 @@
 use Rattle.std.proofs.Common.{◌≡◌, length}
 use Rattle.conformance.specs.Table.{cases, left_over}
 use Rattle.conformance.specs.Findings.{findings_of}
-use Rattle.conformance.specs.Of.{findings_in}
+use Rattle.conformance.specs.Views.{findings_in}
 use Rattle.conformance.proofs.Turn.{onward}
 use Rattle.conformance.proofs.tally.Tally.count.Given as goal
 

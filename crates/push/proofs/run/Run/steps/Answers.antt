@@ -1,6 +1,6 @@
 use Rattle.std.proofs.Common.{◌≡◌, ◌+◌, ◌-◌, true, false, ap, ◌∙◌, arith, rules}
 use Rattle.push.specs.declared.status.Status.TheVariants.{Going}
-use Rattle.push.specs.Of.{next, stepped, settled}
+use Rattle.push.specs.Stepped.{next, stepped, settled}
 use Rattle.push.proofs.RunFacts.{nothing_to_settle, run_over, turn_made, turn_refused}
 use Rattle.push.proofs.run.Run.steps.Goals as goal
 

@@ -1,6 +1,6 @@
 use Rattle.std.proofs.Common.{◌≡◌, ◌-◌}
 use Rattle.push.specs.declared.status.Status.TheVariants.{Going}
-use Rattle.push.specs.Of.{settled}
+use Rattle.push.specs.Stepped.{settled}
 use Rattle.push.specs.Run.{run}
 use Rattle.push.proofs.RunFacts.{counted}
 use Rattle.push.proofs.run.Run.steps.Given as goal

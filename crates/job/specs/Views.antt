@@ -1,4 +1,4 @@
--- The plain meaning of the job types. Assumes nothing.
+-- What the Rust values of a job and a claim are in the terms of Layout.antt and Records.antt. Assumes nothing.
 use Rattle.std.specs.Prelude.{Ok, Err, Option, Result}
 use Rattle.std.specs.Option.{option_map}
 use Rattle.job.specs.declared.fault.ReadFault.{ReadFault}

@@ -1,7 +1,7 @@
 -- What the checks of a job and of a label stand on, in the rules' terms. Assumes nothing.
 use Rattle.std.specs.Prelude.{ℕ, List}
 use Rattle.job.specs.Records.{Claimed}
-use Rattle.job.specs.Of.{sizes, claim_says}
+use Rattle.job.specs.Views.{sizes, claim_says}
 use Rattle.job.specs.declared.claim.Place.{Place}
 use Rattle.lattice.specs.Order.{Order}
 use Rattle.checker.specs.declared.job_check.JobCheck.{JobCheck}

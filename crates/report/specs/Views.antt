@@ -1,4 +1,4 @@
--- The plain meaning of the kinds of lattice, and of what is made of an input. Assumes nothing.
+-- What the Rust values of a kind of lattice and of a report's result are in the definitions' terms. Assumes nothing.
 use Rattle.std.specs.Prelude.{◌≡◌, ℕ, List, Some, None, Ok, Err, Option, Result, String, string_bytes, ⊤}
 use Rattle.lattice.specs.Order.{Order}
 use Rattle.lattice.specs.Kinds.{ladder, owners, flip, pair}

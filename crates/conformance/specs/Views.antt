@@ -1,4 +1,4 @@
--- The plain meaning of the program's types. Assumes nothing.
+-- What the program's Rust values are in the terms of Table.antt and Findings.antt. Assumes nothing.
 use Rattle.std.specs.Prelude.{ℕ, List, Some, None, Option}
 use Rattle.std.specs.Borrow.{Bor}
 use Rattle.conformance.specs.declared.table.Case.{Case}
