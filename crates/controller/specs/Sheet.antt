@@ -42,9 +42,9 @@ sheet_in_front o levels values observer buffer =
 abbrev pub shown_over : Order → List ℕ → List ℤ → ℕ → List ℕ → (ℕ × ℕ) × List ℕ
 shown_over o levels values observer buffer =
     if nat_lt observer o.span
-    then if nat_lt (length buffer) (5 * open_count o levels observer)
+    then (if nat_lt (length buffer) (5 * open_count o levels observer)
     then ((3, 0), buffer)
-    else ((0, open_count o levels observer), sheet_in_front o levels values observer buffer)
+    else ((0, open_count o levels observer), sheet_in_front o levels values observer buffer))
     else ((2, 0), buffer)
 
 abbrev pub show_outcome : {L : Type 0} → (L → Order) → ReadyState L → ℕ → List ℕ → (ℕ × ℕ) × List ℕ

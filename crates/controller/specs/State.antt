@@ -46,9 +46,9 @@ new_state order lattice =
 abbrev pub grade_outcome : {L : Type 0} → (L → Order) → SetupState L → ℕ → ℕ → ℕ × SetupState L
 grade_outcome order s variable level =
     if nat_lt variable 32
-    then if nat_lt level (order s.lattice).span
+    then (if nat_lt level (order s.lattice).span
     then (0, record s { levels = slice_set s.levels variable level })
-    else (2, s)
+    else (2, s))
     else (1, s)
 
 abbrev pub sealed_state : {L : Type 0} → SetupState L → ReadyState L

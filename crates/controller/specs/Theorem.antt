@@ -34,7 +34,7 @@ abbrev pub show_answers : ℕ → List Call → List Answer → List Answer
 show_answers observer calls answers =
     flat_map (λ made. if shows_to observer made.0 then made.1 ∷ [] else []) (zip calls answers)
 
--- Differing bytes: positions where two sheets hold unequal bytes or only one holds any.
+-- Differing bytes: the byte places at which two sheets hold unequal bytes or only one holds any.
 abbrev pub differing : List ℕ → List ℕ → ℕ
 differing [] ys = length ys
 differing (x ∷ xs) [] = 1 + length xs
