@@ -6,7 +6,7 @@ use Rattle.checker.specs.Verdict.{verdict, decoded_code}
 use Rattle.push.specs.Numbers.{sum, difference}
 use Rattle.job.specs.Layout.{opening}
 use Rattle.controller.specs.State.{ReadyState, RunningState, started_state, advance_outcome, end_outcome}
-use Rattle.cases.specs.Jobs.{load_store, job_b, goto_itself, levels_with}
+use Rattle.cases.specs.Jobs.{load_store, job_b, copy_job, swap_job, drop_job, bool_job, on_ints, goto_itself, levels_with}
 
 abbrev pub ladder_and_flip : Order
 ladder_and_flip = pair (ladder 4) (flip (ladder 4))
@@ -63,7 +63,20 @@ pub record WorkedCases : Type 0 where
   pub job_b_late_junction : verdict (ladder 16) (levels_with 0) (job_b 8 3) ≡ (15, 3)
   pub job_b_early_junction : verdict (ladder 16) (levels_with 0) (job_b 6 3) ≡ (14, 3)
   pub goto_itself_accepted : verdict (ladder 16) (levels_with 0) goto_itself ≡ (0, 0)
-  -- runs: status and steps, what end answers, and v2 then
+  -- a copy, a swap and a drop: accepted, with a level claimed too low after it, and on a stack that does not fit
+  pub copy_accepted : verdict (ladder 16) (levels_with 0) (copy_job 4) ≡ (0, 0)
+  pub copied_claimed_too_low : verdict (ladder 16) (levels_with 0) (copy_job 3) ≡ (13, 1)
+  pub copy_on_eight_places : verdict (ladder 16) (levels_with 0) (on_ints 11 8) ≡ (11, 1)
+  pub swap_accepted : verdict (ladder 16) (levels_with 0) (swap_job 2 3 2) ≡ (0, 0)
+  pub top_claimed_too_low : verdict (ladder 16) (levels_with 0) (swap_job 4 3 4) ≡ (13, 2)
+  pub under_claimed_too_low : verdict (ladder 16) (levels_with 0) (swap_job 2 3 1) ≡ (13, 2)
+  pub swap_on_one_place : verdict (ladder 16) (levels_with 0) (on_ints 12 1) ≡ (11, 1)
+  pub drop_accepted : verdict (ladder 16) (levels_with 0) (drop_job 3) ≡ (0, 0)
+  pub left_claimed_too_low : verdict (ladder 16) (levels_with 0) (drop_job 2) ≡ (13, 2)
+  pub drop_on_no_place : verdict (ladder 16) (levels_with 0) (on_ints 13 0) ≡ (11, 1)
+  pub bool_accepted : verdict (ladder 16) (levels_with 0) (bool_job 1) ≡ (0, 0)
+  pub bool_claimed_under : verdict (ladder 16) (levels_with 0) (bool_job 0) ≡ (13, 6)
+  -- runs: status and steps, what end answers, and v2 or v3 then
   pub empty_job_stays_halted : (values : List ℤ) (budgets : List ℕ) →
       advances (0 ∷ 0 ∷ 0 ∷ 0 ∷ []) values budgets ≡ replicate (length budgets) (1, 0)
   pub job_b_runs : (ran (job_b 7 3) (values_with (pos 0)) 100).0 ≡ (1, 7)
@@ -78,6 +91,29 @@ pub record WorkedCases : Type 0 where
   pub goto_itself_ends_unfinished : (ended goto_itself (values_with (pos 0)) 1000).0 ≡ 0
   pub goto_itself_gives_values_back :
       (ended goto_itself (values_with (pos 4)) 1000).1.values ≡ values_with (pos 4)
+  pub copy_runs : (ran (copy_job 4) (values_with (pos 7)) 100).0 ≡ (1, 4)
+  pub copy_ends : (ended (copy_job 4) (values_with (pos 7)) 100).0 ≡ 1
+  pub copy_adds_to_itself :
+      get_or (ended (copy_job 4) (values_with (pos 7)) 100).1.values 3 (pos 0) ≡ pos 14
+  pub copy_runs_past_the_top : (ran (copy_job 4) (values_with (pos 2000000000)) 100).0 ≡ (1, 4)
+  pub copy_ends_past_the_top : (ended (copy_job 4) (values_with (pos 2000000000)) 100).0 ≡ 1
+  pub copy_adds_up_to_the_top :
+      get_or (ended (copy_job 4) (values_with (pos 2000000000)) 100).1.values 3 (pos 0)
+      ≡ pos 2147483647
+  pub swap_runs : (ran (swap_job 2 3 2) (values_with (pos 7)) 100).0 ≡ (1, 5)
+  pub swap_ends : (ended (swap_job 2 3 2) (values_with (pos 7)) 100).0 ≡ 1
+  pub swap_subtracts_v1 :
+      get_or (ended (swap_job 2 3 2) (values_with (pos 7)) 100).1.values 3 (pos 0) ≡ negsuc 3
+  pub drop_runs : (ran (drop_job 3) (values_with (pos 7)) 100).0 ≡ (1, 4)
+  pub drop_ends : (ended (drop_job 3) (values_with (pos 7)) 100).0 ≡ 1
+  pub drop_leaves_v1 :
+      get_or (ended (drop_job 3) (values_with (pos 7)) 100).1.values 3 (pos 0) ≡ pos 7
+  pub bool_runs : (ran (bool_job 1) (values_with (pos 1)) 100).0 ≡ (1, 9)
+  pub bool_ends : (ended (bool_job 1) (values_with (pos 1)) 100).0 ≡ 1
+  pub bool_is_dropped :
+      get_or (ended (bool_job 1) (values_with (pos 1)) 100).1.values 3 (pos 0) ≡ pos 7
   -- sums past the ends of 32 bits
-  pub sum_past_the_top : sum (pos 2147483647) (pos 1) ≡ negsuc 2147483647
-  pub difference_past_the_bottom : difference (negsuc 2147483647) (pos 1) ≡ pos 2147483647
+  pub sum_past_the_top : sum (pos 2147483647) (pos 1) ≡ pos 2147483647
+  pub sum_past_the_bottom : sum (negsuc 2147483647) (negsuc 0) ≡ negsuc 2147483647
+  pub difference_past_the_bottom : difference (negsuc 2147483647) (pos 1) ≡ negsuc 2147483647
+  pub difference_past_the_top : difference (pos 2147483647) (negsuc 0) ≡ pos 2147483647

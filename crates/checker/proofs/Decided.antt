@@ -1,20 +1,20 @@
 -- Each rule's test decides the relation that the rule names. Assumes nothing.
-use Rattle.std.proofs.Common.{◌≡◌, ℕ, ◌+◌, ◌-◌, ◌≤◌, Bool, true, false, not, ◌||◌, eqb, leb, List, [], ◌∷◌, ◌++◌, map, length, get_or, Some, None, Option, sym, refl, ap, ◌∙◌, subst, ⊎_elim, arith, length-append}
+use Rattle.std.proofs.Common.{◌≡◌, ℕ, ◌≤◌, Bool, true, false, not, ◌||◌, eqb, leb, List, [], ◌∷◌, map, length, get_or, is_some, Some, None, Option, sym, refl, ap, ◌∙◌, subst, ⊎_elim, arith}
 use Rattle.std.specs.List.{Contains}
 use Rattle.checker.proofs.ContainsFacts.{contains_first, contains_rest, contains_cases, contains_none}
 use Rattle.std.specs.Prelude.{◌↔◌, IsTrue}
 use Rattle.std.specs.List.{list_all}
-use Rattle.std.specs.Option.{option_to_list}
-use Rattle.std.proofs.lemmas.Bool.{and_parts, and_from, leb-true, le-leb, eq-eqb, ne_eqb, cases_Bool, cases_eq, cond-true, cond-false, false≢true, false_from_ne_true}
+use Rattle.std.specs.Option.{option_and_then}
+use Rattle.std.proofs.lemmas.Bool.{and_parts, and_from, leb-true, leb-false, eq-eqb, ne_eqb, cases_Bool, cases_eq, cond-true, cond-false, false≢true, false_from_ne_true}
 use Rattle.lattice.specs.Order.{Order}
 use Rattle.push.specs.declared.instruction.Instruction.{Instruction}
-use Rattle.push.specs.declared.instruction.Instruction.TheVariants.{Load, Store, Push, Add, Sub, Eq, Less, Not, Goto, GotoF}
+use Rattle.push.specs.declared.instruction.Instruction.TheVariants.{Load, Store, Push, Add, Sub, Eq, Less, Not, Goto, GotoF, Copy, Swap, Drop}
 use Rattle.push.specs.declared.kind.Kind.{Kind}
-use Rattle.push.specs.declared.kind.Kind.TheVariants.{Integer, Boolean}
-use Rattle.push.specs.Language.{pops, pushes, begins, successors}
+use Rattle.push.specs.Language.{kinds_after, successors}
 use Rattle.job.specs.declared.claim.Place.{Place}
 use Rattle.job.specs.declared.claim.Place.TheVariants.{IntegerAt, BooleanAt}
 use Rattle.job.specs.Records.{Claimed, kind}
+use Rattle.job.proofs.Stacks.{kinds_within, kinds_past}
 use Rattle.job.proofs.AllBelow.{all_below_holds, all_below_from}
 use Rattle.checker.specs.Leaving.{joined_one, leaves, level_at, all_fit_under}
 use Rattle.checker.specs.Rules.{ProgramWithClaims, exit, is_empty, claim_takes, takes, fits_its_stack, stores_upward, successors_take}
@@ -23,43 +23,24 @@ use Rattle.checker.proofs.RegionSet.{marks_are_region, region_is_marked}
 use Rattle.checker.specs.Verdict.{claim_at_least, is_surrounded_if_marked, marked_at_least}
 use Rattle.checker.specs.WellClaimed.{FitsItsStack, StoresUpward, Under, none, integer, boolean, Takes, at_exit, by_claim, SuccessorsTake, AvoidsExit, Surrounded, RegionRaised}
 
--- a stack of kinds that begins with some is those and a rest
-begun : (ks xs : List Kind) → begins ks xs ≡ true → (rest : List Kind) × (xs ≡ ks ++ rest)
-begun [] xs h = (xs, refl)
-begun (k ∷ ks) [] h = absurd (false≢true h)
-begun (Integer ∷ ks) (Integer ∷ xs) h = let r = begun ks xs h in (r.0, ap (λ t. Integer ∷ t) r.1)
-begun (Integer ∷ ks) (Boolean ∷ xs) h = absurd (false≢true h)
-begun (Boolean ∷ ks) (Integer ∷ xs) h = absurd (false≢true h)
-begun (Boolean ∷ ks) (Boolean ∷ xs) h = let r = begun ks xs h in (r.0, ap (λ t. Boolean ∷ t) r.1)
+-- an option's test and what it holds
+held : {X : Type 0} (x : Option X) → is_some x ≡ true → (v : X) × (x ≡ Some v)
+held None h = absurd (false≢true h)
+held (Some v) h = (v, refl)
 
-begins_with : (ks rest : List Kind) → begins ks (ks ++ rest) ≡ true
-begins_with [] rest = refl
-begins_with (Integer ∷ ks) rest = begins_with ks rest
-begins_with (Boolean ∷ ks) rest = begins_with ks rest
+-- whether there are kinds after an instruction on a stack's kinds, if it has kinds
+abbrev runs : Instruction → Option (List Kind) → Bool
+runs i ks = is_some (option_and_then (kinds_after i) ks)
 
 pub decides_fits : (c : Claimed) (i : Instruction) → IsTrue (fits_its_stack c i) ↔ FitsItsStack c i
-decides_fits c i =
-    let kinds = map kind c.stack in (
-      λ h.
-          let p = and_parts (begins (pops i) kinds) (leb (length (option_to_list (pushes i)) + (length kinds - length (pops i))) 8) h in
-          let r = begun (pops i) kinds p.0 in
-          record {
-            rest = r.0;
-            popped = r.1;
-            room =
-                omega (
-                  arith,
-                  leb-true (length (option_to_list (pushes i)) + (length kinds - length (pops i))) 8 p.1,
-                  ap length r.1,
-                  length-append (pops i) r.0,
-                );
-          },
-      λ k.
-          and_from (begins (pops i) kinds) (leb (length (option_to_list (pushes i)) + (length kinds - length (pops i))) 8)
-          (ap (begins (pops i)) k.popped ∙ begins_with (pops i) k.rest)
-          (le-leb (length (option_to_list (pushes i)) + (length kinds - length (pops i))) 8
-          (omega (arith, k.room, ap length k.popped, length-append (pops i) k.rest))),
-    )
+decides_fits c i = (by (leb (length c.stack) 8) refl, λ k. ap (runs i) (kinds_within c.stack k.room) ∙ ap is_some k.runs)
+  where
+    by : (b : Bool) → leb (length c.stack) 8 ≡ b → fits_its_stack c i ≡ true → FitsItsStack c i
+    by true room h =
+        let few = leb-true (length c.stack) 8 room in
+        let after = held (kinds_after i (map kind c.stack)) (sym (ap (runs i) (kinds_within c.stack few)) ∙ h) in
+        record { room = few; after = after.0; runs = after.1 }
+    by false deep h = absurd (false≢true (sym (ap (runs i) (kinds_past c.stack (leb-false (length c.stack) 8 deep))) ∙ h))
 
 pub decides_stores : (o : Order) (levels : List ℕ) (c : Claimed) (i : Instruction) → IsTrue (stores_upward o levels c i) ↔ StoresUpward o levels c i
 decides_stores o levels c (Load w) = (λ _ v e. cc, λ _. refl)
@@ -72,6 +53,9 @@ decides_stores o levels c Less = (λ _ v e. cc, λ _. refl)
 decides_stores o levels c Not = (λ _ v e. cc, λ _. refl)
 decides_stores o levels c (Goto m) = (λ _ v e. cc, λ _. refl)
 decides_stores o levels c (GotoF m j) = (λ _ v e. cc, λ _. refl)
+decides_stores o levels c Copy = (λ _ v e. cc, λ _. refl)
+decides_stores o levels c Swap = (λ _ v e. cc, λ _. refl)
+decides_stores o levels c Drop = (λ _ v e. cc, λ _. refl)
 
 under : (o : Order) (ps qs : List Place) → all_fit_under o ps qs ≡ true → Under o ps qs
 under o [] [] h = none

@@ -6,7 +6,7 @@ use Rattle.std.proofs.lemmas.Bool.{eq-eqb, ne_eqb, cases_Bool, cases_eq, cond-tr
 use Rattle.std.proofs.lemmas.Bool.Decides.{nat_tests}
 use Rattle.lattice.specs.Order.{Order}
 use Rattle.push.specs.declared.instruction.Instruction.{Instruction}
-use Rattle.push.specs.declared.instruction.Instruction.TheVariants.{Load, Store, Push, Add, Sub, Eq, Less, Not, Goto, GotoF}
+use Rattle.push.specs.declared.instruction.Instruction.TheVariants.{Load, Store, Push, Add, Sub, Eq, Less, Not, Goto, GotoF, Copy, Swap, Drop}
 use Rattle.push.specs.Code.{fetch}
 use Rattle.job.specs.Layout.{Sizes, sized, opening, claim_record}
 use Rattle.job.specs.declared.fault.ReadFault.{ReadFault}
@@ -155,6 +155,9 @@ module _ (o : Order) (job : ProgramWithClaims) (label : ℕ) (c : Claimed) where
   branch_judged few Less = inl (no_branch Less (λ m j e. cc), refl)
   branch_judged few Not = inl (no_branch Not (λ m j e. cc), refl)
   branch_judged few (Goto t) = inl (no_branch (Goto t) (λ m j e. cc), refl)
+  branch_judged few Copy = inl (no_branch Copy (λ m j e. cc), refl)
+  branch_judged few Swap = inl (no_branch Swap (λ m j e. cc), refl)
+  branch_judged few Drop = inl (no_branch Drop (λ m j e. cc), refl)
   branch_judged few (GotoF t j) =
       let table = region job.code j label in
       let in_exit = get_or table (exit job) false in

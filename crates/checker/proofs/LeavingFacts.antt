@@ -1,56 +1,77 @@
--- What leaves a label, place by place. Assumes nothing.
-use Rattle.std.proofs.Common.{◌≡◌, ℕ, zero, suc, ◌+◌, ◌-◌, ◌<◌, Bool, false, ◌&&◌, List, [], ◌∷◌, ◌++◌, map, length, get_or, drop, is_some, Some, None, Option, refl, ap, ◌∙◌, ap₂, arith, length-append, length-drop, get_or-drop}
-use Rattle.std.specs.Option.{option_to_list}
-use mir.Val.{bool_byte}
+-- What leaves a label: kind by kind, and place by place. Assumes nothing.
+use Rattle.std.proofs.Common.{◌≡◌, ℕ, zero, suc, ◌+◌, Bool, false, ◌&&◌, List, [], ◌∷◌, map, length, get_or, drop, Some, refl, sym, ap, ◌∙◌, ap₂, arith}
 use Rattle.std.specs.List.{list_all, range_with_len}
-use Rattle.std.proofs.lemmas.List.{length-map, get_or-map, drop_all, drop_more}
+use Rattle.std.proofs.lemmas.List.{drop_all, drop_more}
 use Rattle.std.proofs.lemmas.Bool.{and_right}
+use Rattle.std.proofs.lemmas.Option.{same_Some}
 use Rattle.lattice.specs.Order.{Order}
 use Rattle.push.specs.declared.instruction.Instruction.{Instruction}
-use Rattle.push.specs.declared.instruction.Instruction.TheVariants.{Load, Store, Push, Add, Sub, Eq, Less, Not, Goto, GotoF}
-use Rattle.push.specs.Language.{pops, pushes}
+use Rattle.push.specs.declared.instruction.Instruction.TheVariants.{Load, Store, Push, Add, Sub, Eq, Less, Not, Goto, GotoF, Copy, Swap, Drop}
+use Rattle.push.specs.declared.kind.Kind.{Kind}
+use Rattle.push.specs.declared.kind.Kind.TheVariants.{Integer, Boolean}
+use Rattle.push.specs.Language.{one_more, for_two_integers, kinds_after}
 use Rattle.job.specs.declared.claim.Place.{Place}
-use Rattle.job.specs.Records.{Claimed}
-use Rattle.checker.specs.Leaving.{pushed_place, leaves, fits_under, all_fit_under}
+use Rattle.job.specs.declared.claim.Place.TheVariants.{IntegerAt, BooleanAt}
+use Rattle.job.specs.Records.{Claimed, kind}
+use Rattle.push.proofs.StackKindsFacts.{was_room}
+use Rattle.checker.specs.Leaving.{level_at, raised_to, places_after, LeavesTheKindsAfter, fits_under, all_fit_under}
 
--- A place is pushed where the language's table says that a kind is.
-pushed_as_listed : (o : Order) (levels : List ℕ) (c : Claimed) (i : Instruction) →
-    length (option_to_list (pushed_place o levels c i)) ≡ length (option_to_list (pushes i))
-pushed_as_listed o levels c (Load v) = refl
-pushed_as_listed o levels c (Store v) = refl
-pushed_as_listed o levels c (Push x) = refl
-pushed_as_listed o levels c Add = refl
-pushed_as_listed o levels c Sub = refl
-pushed_as_listed o levels c Eq = refl
-pushed_as_listed o levels c Less = refl
-pushed_as_listed o levels c Not = refl
-pushed_as_listed o levels c (Goto m) = refl
-pushed_as_listed o levels c (GotoF m j) = refl
+-- a kind more on top, where there was room for it
+added : (k : Kind) (after before ks : List Kind) → after ≡ k ∷ before → one_more k before ≡ Some ks → after ≡ ks
+added k after before ks e room = e ∙ sym (was_room k before ks (sym room)).0
 
-pub leaves_length : (o : Order) (levels : List ℕ) (c : Claimed) (i : Instruction) →
-    length (leaves o levels c i) ≡ length (option_to_list (pushes i)) + (length c.stack - length (pops i))
-leaves_length o levels c i = simp (length-append, length-map, length-drop) (omega (arith, pushed_as_listed o levels c i))
+raised_kind : (o : Order) (g : ℕ) (p : Place) → kind (raised_to o g p) ≡ kind p
+raised_kind o g (IntegerAt l) = refl
+raised_kind o g (BooleanAt l) = refl
 
-pub one_if_some : {X : Type 0} (p : Option X) → length (option_to_list p) ≡ bool_byte (is_some p)
-one_if_some None = refl
-one_if_some (Some x) = refl
+raised_kinds : (o : Order) (g : ℕ) (s : List Place) → map kind (map (raised_to o g) s) ≡ map kind s
+raised_kinds o g [] = refl
+raised_kinds o g (p ∷ s) = ap₂ (λ k ks. k ∷ ks) (raised_kind o g p) (raised_kinds o g s)
 
--- a place below the one that is pushed, if one is
-rest_at : (f : Place → Place) (k i : ℕ) (xs : List Place) (d : Place) → i < length (map f (drop k xs)) →
-    get_or (map f (drop k xs)) i d ≡ f (get_or xs (i + k) d)
-rest_at f k i xs d h =
-    get_or-map f (drop k xs) i d d (rw length-map at h) ∙ ap f (get_or-drop k xs i d ∙ ap (λ m. get_or xs m d) (omega arith))
+-- a result in the place of two integers
+of_two : (o : Order) (levels : List ℕ) (c : Claimed) (i : Instruction) (k : Kind) → ((ks : List Kind) → kinds_after i ks ≡ for_two_integers k ks) →
+    ((a b : Place) (s : List Place) → map kind (places_after o levels c i (a ∷ b ∷ s)) ≡ k ∷ map kind s) →
+    (s : List Place) (ks : List Kind) → kinds_after i (map kind s) ≡ Some ks → map kind (places_after o levels c i s) ≡ ks
+of_two o levels c i k after left s ks e = by s (sym (after (map kind s)) ∙ e)
+  where
+    by : (s : List Place) → for_two_integers k (map kind s) ≡ Some ks → map kind (places_after o levels c i s) ≡ ks
+    by [] e = cc
+    by (BooleanAt a ∷ s) e = cc
+    by (IntegerAt a ∷ []) e = cc
+    by (IntegerAt a ∷ BooleanAt b ∷ s) e = cc
+    by (IntegerAt a ∷ IntegerAt b ∷ s) e = left (IntegerAt a) (IntegerAt b) s ∙ same_Some _ ks e
 
-pub below_none : (p : Option Place) (f : Place → Place) (k i : ℕ) (xs : List Place) (d : Place) → p ≡ None →
-    i < length (option_to_list p ++ map f (drop k xs)) → get_or (option_to_list p ++ map f (drop k xs)) i d ≡ f (get_or xs (i + k) d)
-below_none None f k i xs d e h = rest_at f k i xs d h
-below_none (Some q) f k i xs d e h = cc
+-- what leaves has the kinds after, instruction by instruction
+kinds_of_places : (o : Order) (levels : List ℕ) (c : Claimed) (i : Instruction) (s : List Place) (ks : List Kind) →
+    kinds_after i (map kind s) ≡ Some ks → map kind (places_after o levels c i s) ≡ ks
+kinds_of_places o levels c (Load v) s ks e = added Integer _ (map kind s) ks refl e
+kinds_of_places o levels c (Store v) [] ks e = cc
+kinds_of_places o levels c (Store v) (IntegerAt a ∷ s) ks e = same_Some _ ks e
+kinds_of_places o levels c (Store v) (BooleanAt a ∷ s) ks e = cc
+kinds_of_places o levels c (Push x) s ks e = added Integer _ (map kind s) ks refl e
+kinds_of_places o levels c Add s ks e = of_two o levels c Add Integer (λ _. refl) (λ a b s. refl) s ks e
+kinds_of_places o levels c Sub s ks e = of_two o levels c Sub Integer (λ _. refl) (λ a b s. refl) s ks e
+kinds_of_places o levels c Eq s ks e = of_two o levels c Eq Boolean (λ _. refl) (λ a b s. refl) s ks e
+kinds_of_places o levels c Less s ks e = of_two o levels c Less Boolean (λ _. refl) (λ a b s. refl) s ks e
+kinds_of_places o levels c Not [] ks e = cc
+kinds_of_places o levels c Not (IntegerAt a ∷ s) ks e = cc
+kinds_of_places o levels c Not (BooleanAt a ∷ s) ks e = same_Some _ ks e
+kinds_of_places o levels c (Goto m) s ks e = same_Some _ ks e
+kinds_of_places o levels c (GotoF m j) [] ks e = cc
+kinds_of_places o levels c (GotoF m j) (IntegerAt a ∷ s) ks e = cc
+kinds_of_places o levels c (GotoF m j) (BooleanAt a ∷ s) ks e = raised_kinds o (level_at c.stack 0) s ∙ same_Some _ ks e
+kinds_of_places o levels c Copy [] ks e = cc
+kinds_of_places o levels c Copy (p ∷ s) ks e =
+    added (kind p) _ (map kind (p ∷ s)) ks (ap (λ k. k ∷ map kind (p ∷ s)) (raised_kind o c.surrounding p)) e
+kinds_of_places o levels c Swap [] ks e = cc
+kinds_of_places o levels c Swap (p ∷ []) ks e = cc
+kinds_of_places o levels c Swap (p ∷ q ∷ s) ks e =
+    ap₂ (λ k l. k ∷ l ∷ map kind s) (raised_kind o c.surrounding q) (raised_kind o c.surrounding p) ∙ same_Some _ ks e
+kinds_of_places o levels c Drop [] ks e = cc
+kinds_of_places o levels c Drop (p ∷ s) ks e = same_Some _ ks e
 
-pub below_pushed : (p : Option Place) (q : Place) (f : Place → Place) (k i : ℕ) (xs : List Place) (d : Place) → p ≡ Some q → 0 < i →
-    i < length (option_to_list p ++ map f (drop k xs)) → get_or (option_to_list p ++ map f (drop k xs)) i d ≡ f (get_or xs (i - 1 + k) d)
-below_pushed None q f k i xs d e some h = cc
-below_pushed (Some r) q f k zero xs d e some h = absurd (omega arith)
-below_pushed (Some r) q f k (suc i) xs d e some h = rest_at f k i xs d (omega arith) ∙ ap (λ m. f (get_or xs m d)) (omega arith)
+pub leaves_the_kinds_after : LeavesTheKindsAfter
+leaves_the_kinds_after o levels c i ks e = kinds_of_places o levels c i c.stack ks e
 
 module _ (o : Order) where
   pub lengths_differ : (xs ys : List Place) → (length xs ≡ length ys → ⊥) → all_fit_under o xs ys ≡ false

@@ -4,7 +4,6 @@ pub mod Decided
 pub mod DecodeFacts
 pub mod FirstFacts
 pub mod Judgement
-pub mod KindFacts
 pub mod Leaves
 pub mod LeavingFacts
 pub mod OnlyFirst

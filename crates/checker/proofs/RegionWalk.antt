@@ -16,12 +16,14 @@ use Rattle.push.specs.Language.{successors}
 use Rattle.std.specs.Ordering.{int_eq}
 use Rattle.push.specs.Numbers.{sum, difference}
 use Rattle.push.specs.Machine as rule
-use Rattle.push.specs.Machine.{Machine, at, ◌⊢◌⟶◌, step}
+use Rattle.push.specs.Machine.{Machine, at, ◌⊢◌⟶◌}
 use Rattle.push.specs.Run as steps
 use Rattle.push.specs.Run.{Steps, label_of}
 use Rattle.std.proofs.lemmas.Option.{slice_get-get_or, same_Some}
 use Rattle.job.specs.declared.claim.Place.{Place}
+use Rattle.job.specs.declared.claim.Place.TheVariants.{IntegerAt, BooleanAt}
 use Rattle.job.specs.Records.{Claimed, level}
+use Rattle.checker.specs.Leaving.{raised_to}
 use Rattle.checker.specs.Rules.{ProgramWithClaims, exit}
 use Rattle.checker.specs.Region.{Region, onward, next_labels, from_instruction}
 use Rattle.checker.specs.WellClaimed.{Under, none, integer, boolean, Takes, at_exit, by_claim, Surrounded}
@@ -29,10 +31,10 @@ use Rattle.checker.proofs.SoundFacts as sound
 use Rattle.checker.proofs.SoundFacts.{Levels}
 use Rattle.checker.proofs.Leaves as leaving
 use Rattle.checker.proofs.Leaves.{Leaves}
-use Rattle.checker.proofs.Agreeing.{Agree, same_int, same_flag, agree_under, low_right}
+use Rattle.checker.proofs.Agreeing.{Agree, same, closed_same, agree_under, low_left, low_right}
 use Rattle.checker.specs.Flow.{SameWhenOpen, LevelsOfVariables}
 use Rattle.checker.proofs.OpenFacts.{same_here, same_then, written}
-use Rattle.checker.proofs.Typing.{Fits, fits_int, fits_flag, fits_length, fits_under, either, rule_within, one_way, Accepted, at_label}
+use Rattle.checker.proofs.Typing.{int, flag, has_raised, Fits, fits, fits_length, fits_under, either, rule_within, one_way, Accepted, at_label}
 
 module _ (o : Order) (w : ℕ) where
   -- A stack with its places that is an end of another, its levels only risen.
@@ -81,18 +83,15 @@ module _ (o : Order) (w : ℕ) where
     -- Two runs meet: places of one end agree as they did, all others are closed.
     meet_ends : {ps qs : List Place} {s t s' t' : List Value} → End ps s qs s' → End ps t qs t' → Agree o w ps s t → Agree o w qs s' t'
     meet_ends (kept u) (kept v) r = agree_under o w laws u r
-    meet_ends (under e) (under f) (same_int h r) = meet_ends e f r
-    meet_ends (under e) (under f) (same_flag h r) = meet_ends e f r
+    meet_ends (under e) (under f) (same h r) = meet_ends e f r
     meet_ends (kept u) (under f) r = absurd (let long = under_length u in let short = end_length f in omega arith)
     meet_ends (under e) (kept v) r = absurd (let long = under_length v in let short = end_length e in omega arith)
 
     pub meet : {ps qs : List Place} {s t s' t' : List Value} → Keeps ps s qs s' → Keeps ps t qs t' → Fits qs s' → Fits qs t' → Agree o w ps s t →
         Agree o w qs s' t'
     meet (low e) (low f) fs ft r = meet_ends e f r
-    meet (above h k) k' (fits_int fs) (fits_int ft) r = same_int (λ l. absurd (h l)) (meet k (keeps_pop k') fs ft r)
-    meet (above h k) k' (fits_flag fs) (fits_flag ft) r = same_flag (λ l. absurd (h l)) (meet k (keeps_pop k') fs ft r)
-    meet (low e) (above h k) (fits_int fs) (fits_int ft) r = same_int (λ l. absurd (h l)) (meet (low (end_pop e)) k fs ft r)
-    meet (low e) (above h k) (fits_flag fs) (fits_flag ft) r = same_flag (λ l. absurd (h l)) (meet (low (end_pop e)) k fs ft r)
+    meet (above high k) k' (fits h fs) (fits h' ft) r = same (closed_same o w high h h') (meet k (keeps_pop k') fs ft r)
+    meet (low e) (above high k) (fits h fs) (fits h' ft) r = same (closed_same o w high h h') (meet (low (end_pop e)) k fs ft r)
 
     module _ (levels : List ℕ) (graded : LevelsOfVariables o levels) (code : List Instruction) (p l : ℕ) (hp : p < o.span)
         (closed : o.at_most p w ≡ true → ⊥) where
@@ -110,20 +109,25 @@ module _ (o : Order) (w : ℕ) where
       hidden : {i : Instruction} {ps : List Place} {s : List Value} {qs : List Place} {t : List Value} {vs : List ℤ} {next : ℕ} {values : List ℤ} →
           (stack : List Value) → code ⊢ at l t vs ⟶ at next stack values → Contains (successors i l) next →
           Fits qs stack → Keeps ps s qs stack → SameWhenOpen o levels w vs values → Hidden i ps s qs t vs
-      hidden {next = next} {values = values} stack by_rule among fits keeps unchanged =
+      hidden {next = next} {values = values} stack by_rule among f keeps unchanged =
           record {
             next = next;
             stack = stack;
             values = values;
             by_rule = by_rule;
             among = among;
-            fits = fits;
+            fits = f;
             keeps = keeps;
             unchanged = unchanged;
           }
 
       closed_join : (a : ℕ) → a < o.span → o.at_most (o.join a p) w ≡ true → ⊥
       closed_join a ha h = closed (low_right o w laws a p ha hp h)
+
+      -- a place raised by the surrounding level is closed
+      raised_closed : (q : Place) → level q < o.span → o.at_most (level (raised_to o p q)) w ≡ true → ⊥
+      raised_closed (IntegerAt a) ha h = closed (low_left o w laws p a hp ha h)
+      raised_closed (BooleanAt a) ha h = closed (low_left o w laws p a hp ha h)
 
       hidden_store : (v a : ℕ) (x : ℤ) (vs : List ℤ) → v < 32 → a < o.span → o.at_most (o.join a p) (get_or levels v 0) ≡ true → length vs ≡ 32 →
           SameWhenOpen o levels w vs (set vs v x)
@@ -136,30 +140,38 @@ module _ (o : Order) (w : ℕ) where
       hidden_step : {i : Instruction} {ps qs rs : List Place} {s t : List Value} → fetch code l ≡ Some i → Leaves o levels p i qs rs → Levels o qs →
           (vs : List ℤ) → length vs ≡ 32 → Fits qs t → Keeps ps s qs t → Hidden i ps s rs t vs
       hidden_step {t = t} at_l (leaving.load {v = v} small room) ls vs sized f k =
-          hidden (Int (get_or vs v (pos 0)) ∷ t) (rule.load at_l small (omega (arith, fits_length f))) (contains_first (l + 1) []) (fits_int f)
+          hidden (Int (get_or vs v (pos 0)) ∷ t) (rule.load at_l small (omega (arith, fits_length f))) (contains_first (l + 1) []) (fits int f)
           (above (closed_join (get_or levels v 0) (graded v small)) k) (same_here vs sized)
-      hidden_step at_l (leaving.store {v = v} {a = a} small up) (sound.more ha ls) vs sized (fits_int {x = x} {s = t} f) k =
+      hidden_step at_l (leaving.store {v = v} {a = a} small up) (sound.more ha ls) vs sized (fits {s = t} (int {x = x}) f) k =
           hidden t (rule.store at_l small) (contains_first (l + 1) []) f (keeps_pop k) (hidden_store v a x vs small ha up sized)
       hidden_step {t = t} at_l (leaving.push {x = x} room) ls vs sized f k =
-          hidden (Int x ∷ t) (rule.push at_l (omega (arith, fits_length f))) (contains_first (l + 1) []) (fits_int f) (above closed k) (same_here vs sized)
-      hidden_step at_l (leaving.add {a = a} {b = b}) (sound.more ha (sound.more hb ls)) vs sized (fits_int {x = x} (fits_int {x = u} {s = t} f)) k =
-          hidden (Int (sum u x) ∷ t) (rule.add at_l) (contains_first (l + 1) []) (fits_int f)
+          hidden (Int x ∷ t) (rule.push at_l (omega (arith, fits_length f))) (contains_first (l + 1) []) (fits int f) (above closed k) (same_here vs sized)
+      hidden_step at_l (leaving.add {a = a} {b = b}) (sound.more ha (sound.more hb ls)) vs sized (fits (int {x = x}) (fits {s = t} (int {x = u}) f)) k =
+          hidden (Int (sum u x) ∷ t) (rule.add at_l) (contains_first (l + 1) []) (fits int f)
           (above (closed_join (o.join a b) (join_level o laws a b ha hb)) (keeps_pop (keeps_pop k))) (same_here vs sized)
-      hidden_step at_l (leaving.sub {a = a} {b = b}) (sound.more ha (sound.more hb ls)) vs sized (fits_int {x = x} (fits_int {x = u} {s = t} f)) k =
-          hidden (Int (difference u x) ∷ t) (rule.sub at_l) (contains_first (l + 1) []) (fits_int f)
+      hidden_step at_l (leaving.sub {a = a} {b = b}) (sound.more ha (sound.more hb ls)) vs sized (fits (int {x = x}) (fits {s = t} (int {x = u}) f)) k =
+          hidden (Int (difference u x) ∷ t) (rule.sub at_l) (contains_first (l + 1) []) (fits int f)
           (above (closed_join (o.join a b) (join_level o laws a b ha hb)) (keeps_pop (keeps_pop k))) (same_here vs sized)
-      hidden_step at_l (leaving.eq {a = a} {b = b}) (sound.more ha (sound.more hb ls)) vs sized (fits_int {x = x} (fits_int {x = u} {s = t} f)) k =
-          hidden (Flag (int_eq u x) ∷ t) (rule.eq at_l) (contains_first (l + 1) []) (fits_flag f)
+      hidden_step at_l (leaving.eq {a = a} {b = b}) (sound.more ha (sound.more hb ls)) vs sized (fits (int {x = x}) (fits {s = t} (int {x = u}) f)) k =
+          hidden (Flag (int_eq u x) ∷ t) (rule.eq at_l) (contains_first (l + 1) []) (fits flag f)
           (above (closed_join (o.join a b) (join_level o laws a b ha hb)) (keeps_pop (keeps_pop k))) (same_here vs sized)
-      hidden_step at_l (leaving.less {a = a} {b = b}) (sound.more ha (sound.more hb ls)) vs sized (fits_int {x = x} (fits_int {x = u} {s = t} f)) k =
-          hidden (Flag (int_lt u x) ∷ t) (rule.less at_l) (contains_first (l + 1) []) (fits_flag f)
+      hidden_step at_l (leaving.less {a = a} {b = b}) (sound.more ha (sound.more hb ls)) vs sized (fits (int {x = x}) (fits {s = t} (int {x = u}) f)) k =
+          hidden (Flag (int_lt u x) ∷ t) (rule.less at_l) (contains_first (l + 1) []) (fits flag f)
           (above (closed_join (o.join a b) (join_level o laws a b ha hb)) (keeps_pop (keeps_pop k))) (same_here vs sized)
-      hidden_step at_l (leaving.not {a = a}) (sound.more ha ls) vs sized (fits_flag {b = b} {s = t} f) k =
-          hidden (Flag (not b) ∷ t) (rule.not at_l) (contains_first (l + 1) []) (fits_flag f) (above (closed_join a ha) (keeps_pop k)) (same_here vs sized)
+      hidden_step at_l (leaving.not {a = a}) (sound.more ha ls) vs sized (fits {s = t} (flag {b = b}) f) k =
+          hidden (Flag (not b) ∷ t) (rule.not at_l) (contains_first (l + 1) []) (fits flag f) (above (closed_join a ha) (keeps_pop k)) (same_here vs sized)
       hidden_step {t = t} at_l (leaving.goto {m = m}) ls vs sized f k =
           hidden t (rule.goto at_l) (contains_first m []) f k (same_here vs sized)
-      hidden_step at_l (leaving.gotof {m = m}) ls vs sized (fits_flag {b = b} {s = t} f) k =
+      hidden_step at_l (leaving.gotof {m = m}) ls vs sized (fits {s = t} (flag {b = b}) f) k =
           hidden t (rule.gotof at_l) (either l m b) f (keeps_pop k) (same_here vs sized)
+      hidden_step at_l (leaving.copy {q = q} room) (sound.more hq ls) vs sized (fits {x = x} {s = t} h f) k =
+          hidden (x ∷ x ∷ t) (rule.copy at_l (omega (arith, fits_length f))) (contains_first (l + 1) []) (fits (has_raised o p h) (fits h f))
+          (above (raised_closed q hq) k) (same_here vs sized)
+      hidden_step at_l (leaving.swap {q = q} {r = r}) (sound.more hq (sound.more hr ls)) vs sized (fits {x = x} h (fits {x = u} {s = t} h' f)) k =
+          hidden (u ∷ x ∷ t) (rule.swap at_l) (contains_first (l + 1) []) (fits (has_raised o p h') (fits (has_raised o p h) f))
+          (above (raised_closed r hr) (above (raised_closed q hq) (keeps_pop (keeps_pop k)))) (same_here vs sized)
+      hidden_step at_l leaving.drop ls vs sized (fits {s = t} h f) k =
+          hidden t (rule.drop at_l) (contains_first (l + 1) []) f (keeps_pop k) (same_here vs sized)
 
 -- The walk from a label of the region, or from the junction at once, to the junction.
 module _ (o : Order) (laws : Laws o) (w : ℕ) (levels : List ℕ) (graded : LevelsOfVariables o levels) (job : ProgramWithClaims) (acc : Accepted o levels job)

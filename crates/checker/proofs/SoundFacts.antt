@@ -1,5 +1,6 @@
 -- A job that decodes has sound instructions and claims over the lattice's levels. Assumes nothing.
-use Rattle.std.proofs.Common.{◌≡◌, ℕ, zero, suc, ◌+◌, ◌*◌, ◌<◌, ◌≤◌, Bool, true, false, cond, ◌&&◌, eqb, ltb, leb, List, [], ◌∷◌, ◌++◌, length, get_or, drop, ℤ, pos, negsuc, Some, None, Option, sym, refl, ap, ◌∙◌, subst, add-one, arith, length-append, w32, to_z}
+use Rattle.std.proofs.Common.{◌≡◌, ℕ, zero, suc, ◌+◌, ◌*◌, ◌<◌, ◌≤◌, Bool, true, false, cond, ◌&&◌, eqb, ltb, leb, List, [], ◌∷◌, ◌++◌, length, get_or, ℤ, pos, negsuc, Some, None, Option, sym, refl, ap, ◌∙◌, subst, add-one, arith, length-append, w32, to_z}
+use Rattle.std.specs.Prelude as std
 use Rattle.std.specs.Bool.{then_some}
 use Rattle.std.specs.Option.{option_to_list}
 use Rattle.std.specs.List.{AllByRecursion as All}
@@ -8,7 +9,7 @@ use Rattle.std.proofs.ByRecursion.{All-append}
 use Rattle.std.proofs.lemmas.Bool.{and_parts, leb-true, ltb-true, false≢true}
 use Rattle.lattice.specs.Order.{Order}
 use Rattle.push.specs.declared.instruction.Instruction.{Instruction}
-use Rattle.push.specs.declared.instruction.Instruction.TheVariants.{Load, Store, Push, Add, Sub, Eq, Less, Not, Goto, GotoF}
+use Rattle.push.specs.declared.instruction.Instruction.TheVariants.{Load, Store, Push, Add, Sub, Eq, Less, Not, Goto, GotoF, Copy, Swap, Drop}
 use Rattle.push.specs.Code.{fetch}
 use Rattle.job.specs.declared.claim.Place.{Place}
 use Rattle.job.specs.declared.claim.Place.TheVariants.{IntegerAt, BooleanAt}
@@ -29,6 +30,9 @@ pub data Sound (exit : ℕ) : Instruction → Type 0 where
   not : Sound exit Not
   goto : {m : ℕ} → m ≤ exit → Sound exit (Goto m)
   gotof : {m j : ℕ} → m ≤ exit → Sound exit (GotoF m j)
+  copy : Sound exit Copy
+  swap : Sound exit Swap
+  drop : Sound exit Drop
 
 -- Places whose levels are levels of the lattice.
 pub data Levels (o : Order) : List Place → Type 0 where
@@ -71,7 +75,10 @@ module _ (exit : ℕ) where
       (given_sound (none_else && up_to exit operand) (Goto (natural operand)) (λ h. goto (target (and_parts none_else (up_to exit operand) h).1)))
       (either (eqb operation 10) _ _
       (given_sound (leb junction exit && up_to exit operand) (GotoF (natural operand) junction)
-      (λ h. gotof (target (and_parts (leb junction exit) (up_to exit operand) h).1))) tt)))))))))
+      (λ h. gotof (target (and_parts (leb junction exit) (up_to exit operand) h).1)))
+      (either (eqb operation 11) _ _ (given_sound bare Copy (λ _. copy))
+      (either (eqb operation 12) _ _ (given_sound bare Swap (λ _. swap))
+      (either (eqb operation 13) _ _ (given_sound bare Drop (λ _. drop)) tt))))))))))))
 
   record_sound : (bytes : List ℕ) → SaysSound (instruction_in exit bytes)
   record_sound (operation ∷ junction ∷ b0 ∷ b1 ∷ b2 ∷ b3 ∷ []) = decoded_sound operation junction (to_z w32 (b0 + b1 * 256 + b2 * 65536 + b3 * 16777216))
@@ -123,7 +130,7 @@ module _ (o : Order) (bytes : List ℕ) where
   claim_levels : (places : ℕ) (c : Claimed) → like_a_claim o.span places bytes ≡ true → claim_in bytes ≡ Some c → (c.surrounding < o.span) × Levels o c.stack
   claim_levels places c h e =
       let depth = get_or bytes 1 0 in
-      let rest = zeros (drop (4 + 3 * depth) bytes) in
+      let rest = zeros (std.drop (4 + 3 * depth) bytes) in
       let stacked = all_below (like_a_place o.span bytes) depth in
       let within = ltb (two bytes 2) o.span in
       let k =

@@ -6,7 +6,7 @@ use Rattle.checker.proofs.ContainsFacts.{contains_first, contains_rest, contains
 use Rattle.std.proofs.lemmas.Bool.{cases_lt}
 use Rattle.lattice.specs.Order.{Order, Laws}
 use Rattle.push.specs.declared.instruction.Instruction.{Instruction}
-use Rattle.push.specs.declared.instruction.Instruction.TheVariants.{Load, Store, Push, Add, Sub, Eq, Less, Not, Goto, GotoF}
+use Rattle.push.specs.declared.instruction.Instruction.TheVariants.{Add, Goto, GotoF}
 use Rattle.push.specs.declared.value.Value.{Value}
 use Rattle.push.specs.declared.value.Value.TheVariants.{Int, Flag}
 use Rattle.push.specs.Code.{fetch}
@@ -14,7 +14,7 @@ use Rattle.push.specs.Language.{successors}
 use Rattle.std.specs.Ordering.{int_eq}
 use Rattle.push.specs.Numbers.{sum, difference}
 use Rattle.push.specs.Machine as rule
-use Rattle.push.specs.Machine.{Machine, at, ◌⊢◌⟶◌, perform, step}
+use Rattle.push.specs.Machine.{Machine, at, ◌⊢◌⟶◌, perform}
 use Rattle.push.specs.Run as steps
 use Rattle.push.specs.Run.{Steps, label_of}
 use Rattle.std.proofs.lemmas.Option.{slice_get-get_or, slice_get_past, none-some, same_Some}
@@ -24,6 +24,7 @@ use Rattle.job.specs.declared.claim.Place.TheVariants.{IntegerAt, BooleanAt}
 use Rattle.job.specs.Records.{Claimed}
 use Rattle.checker.specs.Rules.{ProgramWithClaims, exit}
 use Rattle.checker.specs.Flow.{NeverFaults}
+use Rattle.checker.specs.Leaving.{raised_to}
 use Rattle.checker.specs.WellClaimed.{Under, none, integer, boolean, Takes, at_exit, by_claim, WellClaimed}
 use Rattle.checker.proofs.SoundFacts as sound
 use Rattle.checker.proofs.SoundFacts.{Sound, Levels}
@@ -39,21 +40,28 @@ module _ (code : List Instruction) where
   pub one_way : (m n o : Machine) → code ⊢ m ⟶ n → code ⊢ m ⟶ o → n ≡ o
   one_way m n o r q = same_Some _ _ (sym (rule_steps code r) ∙ rule_steps code q)
 
+-- A value of the kind of its place.
+pub data Has : Place → Value → Type 0 where
+  int : {a : ℕ} {x : ℤ} → Has (IntegerAt a) (Int x)
+  flag : {a : ℕ} {b : Bool} → Has (BooleanAt a) (Flag b)
+
+pub has_raised : (o : Order) (g : ℕ) {q : Place} {x : Value} → Has q x → Has (raised_to o g q) x
+has_raised o g int = int
+has_raised o g flag = flag
+
 -- A stack of the claimed depth and kinds.
 pub data Fits : List Place → List Value → Type 0 where
   fits_none : Fits [] []
-  fits_int : {a : ℕ} {x : ℤ} {ps : List Place} {s : List Value} → Fits ps s → Fits (IntegerAt a ∷ ps) (Int x ∷ s)
-  fits_flag : {a : ℕ} {b : Bool} {ps : List Place} {s : List Value} → Fits ps s → Fits (BooleanAt a ∷ ps) (Flag b ∷ s)
+  fits : {q : Place} {x : Value} {ps : List Place} {s : List Value} → Has q x → Fits ps s → Fits (q ∷ ps) (x ∷ s)
 
 pub fits_length : {ps : List Place} {s : List Value} → Fits ps s → length s ≡ length ps
 fits_length fits_none = refl
-fits_length (fits_int {ps = ps} {s = s} f) = let more = fits_length f in omega arith
-fits_length (fits_flag {ps = ps} {s = s} f) = let more = fits_length f in omega arith
+fits_length (fits {ps = ps} {s = s} h f) = let more = fits_length f in omega arith
 
 pub fits_under : {o : Order} {ps qs : List Place} {s : List Value} → Under o ps qs → Fits ps s → Fits qs s
 fits_under none fits_none = fits_none
-fits_under (integer h u) (fits_int f) = fits_int (fits_under u f)
-fits_under (boolean h u) (fits_flag f) = fits_flag (fits_under u f)
+fits_under (integer h u) (fits int f) = fits int (fits_under u f)
+fits_under (boolean h u) (fits flag f) = fits flag (fits_under u f)
 
 -- One step from a label: by a rule, to a successor, with a stack that fits what leaves.
 record Goes (code : List Instruction) (i : Instruction) (l : ℕ) (s : List Value) (vs : List ℤ) (qs : List Place) : Type 0 where
@@ -71,38 +79,44 @@ either l m false = contains_rest (l + 1) (m ∷ []) m (contains_first m [])
 module _ (o : Order) (levels : List ℕ) (code : List Instruction) (p l : ℕ) where
   steps_to : {i : Instruction} {s : List Value} {vs : List ℤ} {qs : List Place} {next : ℕ} {values : List ℤ} →
       (stack : List Value) → code ⊢ at l s vs ⟶ at next stack values → Contains (successors i l) next → Fits qs stack → Goes code i l s vs qs
-  steps_to {next = next} {values = values} stack by_rule among fits =
+  steps_to {next = next} {values = values} stack by_rule among f =
       record {
         next = next;
         stack = stack;
         values = values;
         by_rule = by_rule;
         among = among;
-        fits = fits;
+        fits = f;
       }
 
   goes : {i : Instruction} {ps qs : List Place} → fetch code l ≡ Some i → Leaves o levels p i ps qs → {s : List Value} (vs : List ℤ) → Fits ps s →
       Goes code i l s vs qs
   goes at_l (leaving.load {v = v} {ps = ps} small room) {s} vs f =
-      steps_to (Int (get_or vs v (pos 0)) ∷ s) (rule.load at_l small (omega (arith, fits_length f))) (contains_first (l + 1) []) (fits_int f)
-  goes at_l (leaving.store {v = v} small up) vs (fits_int {x = t} {s = s} f) =
+      steps_to (Int (get_or vs v (pos 0)) ∷ s) (rule.load at_l small (omega (arith, fits_length f))) (contains_first (l + 1) []) (fits int f)
+  goes at_l (leaving.store {v = v} small up) vs (fits {s = s} (int {x = t}) f) =
       steps_to s (rule.store at_l small) (contains_first (l + 1) []) f
   goes at_l (leaving.push {x = x} room) {s} vs f =
-      steps_to (Int x ∷ s) (rule.push at_l (omega (arith, fits_length f))) (contains_first (l + 1) []) (fits_int f)
-  goes at_l leaving.add vs (fits_int {x = t} (fits_int {x = u} {s = s} f)) =
-      steps_to (Int (sum u t) ∷ s) (rule.add at_l) (contains_first (l + 1) []) (fits_int f)
-  goes at_l leaving.sub vs (fits_int {x = t} (fits_int {x = u} {s = s} f)) =
-      steps_to (Int (difference u t) ∷ s) (rule.sub at_l) (contains_first (l + 1) []) (fits_int f)
-  goes at_l leaving.eq vs (fits_int {x = t} (fits_int {x = u} {s = s} f)) =
-      steps_to (Flag (int_eq u t) ∷ s) (rule.eq at_l) (contains_first (l + 1) []) (fits_flag f)
-  goes at_l leaving.less vs (fits_int {x = t} (fits_int {x = u} {s = s} f)) =
-      steps_to (Flag (int_lt u t) ∷ s) (rule.less at_l) (contains_first (l + 1) []) (fits_flag f)
-  goes at_l leaving.not vs (fits_flag {b = b} {s = s} f) =
-      steps_to (Flag (not b) ∷ s) (rule.not at_l) (contains_first (l + 1) []) (fits_flag f)
+      steps_to (Int x ∷ s) (rule.push at_l (omega (arith, fits_length f))) (contains_first (l + 1) []) (fits int f)
+  goes at_l leaving.add vs (fits (int {x = t}) (fits {s = s} (int {x = u}) f)) =
+      steps_to (Int (sum u t) ∷ s) (rule.add at_l) (contains_first (l + 1) []) (fits int f)
+  goes at_l leaving.sub vs (fits (int {x = t}) (fits {s = s} (int {x = u}) f)) =
+      steps_to (Int (difference u t) ∷ s) (rule.sub at_l) (contains_first (l + 1) []) (fits int f)
+  goes at_l leaving.eq vs (fits (int {x = t}) (fits {s = s} (int {x = u}) f)) =
+      steps_to (Flag (int_eq u t) ∷ s) (rule.eq at_l) (contains_first (l + 1) []) (fits flag f)
+  goes at_l leaving.less vs (fits (int {x = t}) (fits {s = s} (int {x = u}) f)) =
+      steps_to (Flag (int_lt u t) ∷ s) (rule.less at_l) (contains_first (l + 1) []) (fits flag f)
+  goes at_l leaving.not vs (fits {s = s} (flag {b = b}) f) =
+      steps_to (Flag (not b) ∷ s) (rule.not at_l) (contains_first (l + 1) []) (fits flag f)
   goes at_l (leaving.goto {m = m}) {s} vs f =
       steps_to s (rule.goto at_l) (contains_first m []) f
-  goes at_l (leaving.gotof {m = m}) vs (fits_flag {b = b} {s = s} f) =
+  goes at_l (leaving.gotof {m = m}) vs (fits {s = s} (flag {b = b}) f) =
       steps_to s (rule.gotof at_l) (either l m b) f
+  goes at_l (leaving.copy room) vs (fits {x = x} {s = s} h f) =
+      steps_to (x ∷ x ∷ s) (rule.copy at_l (omega (arith, fits_length f))) (contains_first (l + 1) []) (fits (has_raised o p h) (fits h f))
+  goes at_l leaving.swap vs (fits {x = x} h (fits {x = y} {s = s} k f)) =
+      steps_to (y ∷ x ∷ s) (rule.swap at_l) (contains_first (l + 1) []) (fits (has_raised o p k) (fits (has_raised o p h) f))
+  goes at_l leaving.drop vs (fits {s = s} h f) =
+      steps_to s (rule.drop at_l) (contains_first (l + 1) []) f
 
 -- What acceptance tells of a job.
 pub record Accepted (o : Order) (levels : List ℕ) (job : ProgramWithClaims) : Type 0 where
@@ -114,17 +128,10 @@ only : (x y : ℕ) → Contains (y ∷ []) x → x ≡ y
 only x y c = ⊎_elim (λ (e : x ≡ y). e) (λ (k : Contains [] x). absurd (contains_none x k)) (contains_cases y [] x c)
 
 successors_within : (n l next : ℕ) (i : Instruction) → Sound n i → l < n → Contains (successors i l) next → next ≤ n
-successors_within n l next (Load v) h lt a = omega (arith, only next (l + 1) a)
-successors_within n l next (Store v) h lt a = omega (arith, only next (l + 1) a)
-successors_within n l next (Push x) h lt a = omega (arith, only next (l + 1) a)
-successors_within n l next Add h lt a = omega (arith, only next (l + 1) a)
-successors_within n l next Sub h lt a = omega (arith, only next (l + 1) a)
-successors_within n l next Eq h lt a = omega (arith, only next (l + 1) a)
-successors_within n l next Less h lt a = omega (arith, only next (l + 1) a)
-successors_within n l next Not h lt a = omega (arith, only next (l + 1) a)
 successors_within n l next (Goto m) (sound.goto h) lt a = omega (arith, only next m a)
 successors_within n l next (GotoF m j) (sound.gotof h) lt a =
     ⊎_elim (λ (e : next ≡ l + 1). omega arith) (λ (k : Contains (m ∷ []) next). omega (arith, only next m k)) (contains_cases (l + 1) (m ∷ []) next a)
+successors_within n l next i h lt a = omega (arith, only next (l + 1) a)
 
 module _ (o : Order) (laws : Laws o) (levels : List ℕ) (job : ProgramWithClaims) (acc : Accepted o levels job) where
   -- What a claimed label with an instruction leaves.

@@ -1,13 +1,13 @@
 -- The rules that the claim of a label must meet, each by a name that says what it asks. Assumes nothing.
-use Rattle.std.specs.Prelude.{ℕ, Bool, true, false, if◌then◌else◌, not, List, [], ◌∷◌, map, length, Some, None, Option, ◌==◌, slice_index}
+use Rattle.std.specs.Prelude.{ℕ, Bool, true, false, if◌then◌else◌, not, List, [], ◌∷◌, length, is_some, Some, None, Option, option_and_then, ◌==◌, slice_index}
 use Rattle.std.specs.List.{list_all}
 use Rattle.lattice.specs.Order.{Order}
 use Rattle.push.specs.declared.instruction.Instruction.{Instruction}
 use Rattle.push.specs.declared.instruction.Instruction.TheVariants.{Store}
 use Rattle.push.specs.Code.{fetch}
-use Rattle.push.specs.Language.{runs_on, successors}
+use Rattle.push.specs.Language.{kinds_after, successors}
 use Rattle.job.specs.declared.claim.Place.{Place}
-use Rattle.job.specs.Records.{Claimed, kind}
+use Rattle.job.specs.Records.{Claimed, stack_kinds}
 use Rattle.checker.specs.Leaving.{joined_one, leaves, all_fit_under}
 
 -- A job as the rules see it: the instructions, and the claims of the labels that have one.
@@ -18,9 +18,9 @@ pub record ProgramWithClaims : Type 0 where
 abbrev pub exit : ProgramWithClaims → ℕ
 exit job = length job.code
 
--- A stack of the claimed depth and kinds does not fault.
+-- A stack of the claimed depth and kinds does not fault: it has kinds, and there are kinds after the instruction on them.
 abbrev pub fits_its_stack : Claimed → Instruction → Bool
-fits_its_stack c i = runs_on i (map kind c.stack)
+fits_its_stack c i = is_some (option_and_then (kinds_after i) (stack_kinds c.stack))
 
 -- What is stored goes to a variable whose level is at least its own, joined with the surrounding one.
 abbrev pub stores_upward : Order → List ℕ → Claimed → Instruction → Bool

@@ -1,12 +1,12 @@
 -- What the claims of a job must satisfy, as relations, and what the verdict says of them. Assumes nothing.
-use Rattle.std.specs.Prelude.{◌≡◌, ℕ, ◌+◌, ◌<◌, ◌≤◌, IsTrue, ◌≢◌, ◌⊎◌, List, [], ◌∷◌, ◌++◌, map, length, Some, Ok, Err, slice_index, option_to_list}
+use Rattle.std.specs.Prelude.{◌≡◌, ℕ, ◌<◌, ◌≤◌, IsTrue, ◌≢◌, ◌⊎◌, List, [], ◌∷◌, map, length, Some, Ok, Err, slice_index}
 use Rattle.std.specs.List.{Contains}
 use Rattle.lattice.specs.Order.{Order}
 use Rattle.push.specs.declared.instruction.Instruction.{Instruction}
 use Rattle.push.specs.declared.instruction.Instruction.TheVariants.{Store, GotoF}
 use Rattle.push.specs.declared.kind.Kind.{Kind}
 use Rattle.push.specs.Code.{fetch}
-use Rattle.push.specs.Language.{pops, pushes, successors}
+use Rattle.push.specs.Language.{kinds_after, successors}
 use Rattle.job.specs.declared.claim.Place.{Place}
 use Rattle.job.specs.declared.claim.Place.TheVariants.{IntegerAt, BooleanAt}
 use Rattle.job.specs.declared.fault.ReadFault.{ReadFault}
@@ -18,11 +18,11 @@ use Rattle.checker.specs.Rules.{ProgramWithClaims, exit}
 use Rattle.checker.specs.Region.{Region}
 use Rattle.checker.specs.Verdict.{instruction_at, job_in, verdict}
 
--- A claimed stack begins with what the instruction pops, and what it leaves has at most eight places.
+-- A claimed stack has at most eight places, and there are kinds after the instruction on its kinds.
 pub record FitsItsStack (c : Claimed) (i : Instruction) : Type 0 where
-  pub rest : List Kind
-  pub popped : map kind c.stack ≡ pops i ++ rest
-  pub room : length (option_to_list (pushes i)) + length rest ≤ 8
+  pub room : length c.stack ≤ 8
+  pub after : List Kind
+  pub runs : kinds_after i (map kind c.stack) ≡ Some after
 
 -- What is stored is, joined with the surrounding level, at most the variable's level.
 abbrev pub StoresUpward : Order → List ℕ → Claimed → Instruction → Type 0

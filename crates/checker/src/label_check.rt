@@ -1,25 +1,28 @@
-ghost use Rattle.std.specs.Prelude.{◌≡◌, ◌≤◌, length, map, slice_index, slice_index_or};
+ghost use Rattle.std.specs.Prelude.{◌≡◌, Some, length, map, slice_index, slice_index_or};
 ghost use Rattle.job.specs.declared.claim.Place.TheVariants.{IntegerAt};
 ghost use Rattle.job.specs.Views.{claim_says};
-ghost use Rattle.push.specs.Language.{begins as begins_of};
+ghost use Rattle.push.specs.Language.{kinds_after};
 ghost use Rattle.job.specs.Records.{kind as kind_of};
 ghost use Rattle.checker.specs.Faults.{rule_answer};
-ghost use Rattle.checker.specs.Leaving.{joined_one as joined_one_of, joined_two as joined_two_of, pushed_place as pushed_place_of, raised as raised_of, level_at, fits_under as fits_under_of, all_fit_under};
-ghost use Rattle.checker.specs.Rules.{fits_its_stack as fits_its_stack_of, stores_upward as stores_upward_of, takes as takes_of, successors_take as successors_take_of, rule_at, label_rule};
+ghost use Rattle.checker.specs.Leaving.{joined_one as joined_one_of, joined_two as joined_two_of, raised_to, level_at, fits_under as fits_under_of, all_fit_under};
+ghost use Rattle.checker.specs.Rules.{stores_upward as stores_upward_of, takes as takes_of, successors_take as successors_take_of, rule_at, label_rule};
 
 use crate::fault::Rule;
 use crate::job_check::JobCheck;
 use job::{Claim, Place};
 use lattice::Lattice;
-use push::{Instruction, Kind, STACK_PLACES};
+use push::{Instruction, StackKinds};
 
-// A label under check: its claim and its instruction, in a job. From these it follows what leaves the label, and whether
-// the label may have such a claim.
+// A label under check, whose claimed stack does not fault: its claim and its instruction, in a job, and the kinds of the
+// stack that leaves. From these it follows what leaves the label, and whether the label may have such a claim.
 #[derive(Drop)]
 struct LabelCheck<'a, L> {
     check: &'a JobCheck<'a, L>,
     claim: Claim,
     instruction: Instruction,
+    leaving: StackKinds,
+    // So the depth of `leaving` is that of what leaves.
+    ghost leaving_is: { kinds_after instruction (map kind_of (claim_says check.now.job claim).stack) ≡ Some leaving },
 }
 
 impl<L: Lattice> LabelCheck<'_, L> {
@@ -66,49 +69,30 @@ impl<L: Lattice> LabelCheck<'_, L> {
         self.check.lattice.join(operands, self.claim.surrounding)
     }
 
-    // The place that the instruction pushes.
-    fn pushed_place(&self) -> Option<Place>
-        ensures { result
-            ≡ pushed_place_of (order_of L.Lattice.order self.now) (levels_of self.now.check.now)
-            (claimed_of self.now) self.now.instruction }
+    // A place raised by a level.
+    fn raised(&self, level: u16, place: Place) -> Place
+        ensures { result ≡ raised_to (order_of L.Lattice.order self.now) level place }
     {
-        match self.instruction {
-            Instruction::Load(variable) => {
-                let level = self.variable_level(variable);
-                let joined = self.check.lattice.join(level, self.claim.surrounding);
-                Some(Place::IntegerAt(joined))
-            }
-            Instruction::Push(_) => Some(Place::IntegerAt(self.claim.surrounding)),
-            Instruction::Add | Instruction::Sub => Some(Place::IntegerAt(self.joined_two())),
-            Instruction::Eq | Instruction::Less => Some(Place::BooleanAt(self.joined_two())),
-            Instruction::Not => Some(Place::BooleanAt(self.joined_one())),
-            Instruction::Store(_) | Instruction::Goto(_) | Instruction::GotoF { .. } => None,
+        match place {
+            Place::IntegerAt(own) => Place::IntegerAt(self.check.lattice.join(level, own)),
+            Place::BooleanAt(own) => Place::BooleanAt(self.check.lattice.join(level, own)),
         }
     }
 
-    // What becomes of a place that the instruction leaves: a branch raises it by the level of the boolean that it pops.
-    fn raised(&self, place: Place) -> Place
+    // A claimed place, raised by the surrounding level.
+    fn surrounded_place(&self, place: u16) -> Place
         ensures { result
-            ≡ raised_of (order_of L.Lattice.order self.now) (claimed_of self.now)
-            self.now.instruction place }
+            ≡ raised_to (order_of L.Lattice.order self.now) (claimed_of self.now).surrounding
+            (slice_index_or (claimed_of self.now).stack place (IntegerAt 0)) }
     {
-        let Instruction::GotoF { .. } = self.instruction else {
-            return place;
-        };
-        let guard = self.level_at(0);
-        match place {
-            Place::IntegerAt(level) => Place::IntegerAt(self.check.lattice.join(guard, level)),
-            Place::BooleanAt(level) => Place::BooleanAt(self.check.lattice.join(guard, level)),
-        }
+        self.raised(self.claim.surrounding, self.claimed_place(place))
     }
 
     // How many places leave.
     fn depth(&self) -> u16
-        ensures value { result ≡ length (leaves_of L.Lattice.order self.now) }
-        ensures bound { result ≤ 256 }
+        ensures { result ≡ length (leaves_of L.Lattice.order self.now) }
     {
-        let left = u16::from(self.claim.depth).saturating_sub(self.instruction.popped());
-        left + u16::from(self.instruction.pushes().is_some())
+        u16::from(self.leaving.depth())
     }
 
     // A place that leaves, the top being 0; an integer of level 0 below the bottom.
@@ -118,13 +102,36 @@ impl<L: Lattice> LabelCheck<'_, L> {
         if place >= self.depth() {
             return Place::IntegerAt(0);
         }
-        let below = match (self.pushed_place(), place) {
-            (Some(pushed), 0) => return pushed,
-            (Some(_), _) => place - 1,
-            (None, _) => place,
-        };
-        let at = below + self.instruction.popped();
-        self.raised(self.claimed_place(at))
+        match (self.instruction, place) {
+            (Instruction::Load(variable), 0) => {
+                let level = self.variable_level(variable);
+                Place::IntegerAt(self.check.lattice.join(level, self.claim.surrounding))
+            }
+            (Instruction::Push(_), 0) => Place::IntegerAt(self.claim.surrounding),
+            (Instruction::Add | Instruction::Sub, 0) => Place::IntegerAt(self.joined_two()),
+            (Instruction::Eq | Instruction::Less, 0) => Place::BooleanAt(self.joined_two()),
+            (Instruction::Not, 0) => Place::BooleanAt(self.joined_one()),
+            (Instruction::Copy, 0) | (Instruction::Swap, 1) => self.surrounded_place(0),
+            (Instruction::Swap, 0) => self.surrounded_place(1),
+            (Instruction::GotoF { .. }, _) => {
+                self.raised(self.level_at(0), self.claimed_place(place + 1))
+            }
+            (Instruction::Load(_) | Instruction::Push(_) | Instruction::Copy, _) => {
+                self.claimed_place(place - 1)
+            }
+            (Instruction::Not | Instruction::Swap | Instruction::Goto(_), _) => {
+                self.claimed_place(place)
+            }
+            (
+                Instruction::Store(_)
+                | Instruction::Add
+                | Instruction::Sub
+                | Instruction::Eq
+                | Instruction::Less
+                | Instruction::Drop,
+                _,
+            ) => self.claimed_place(place + 1),
+        }
     }
 
     // Whether a leaving place has the claimed kind, and a level at most the claimed one.
@@ -147,25 +154,6 @@ impl<L: Lattice> LabelCheck<'_, L> {
                 self.place(place),
                 self.check.job.stack_place(next, place),
             ))
-    }
-
-    // Whether the claimed stack begins with places of these kinds.
-    fn begins(&self, kinds: &[Kind]) -> bool
-        ensures { result ≡ begins_of kinds.now (map kind_of (claimed_of self.now).stack) }
-    {
-        let depth = u16::from(self.claim.depth);
-        kinds.len() <= usize::from(depth)
-            && kinds
-                .iter()
-                .zip(0..depth)
-                .all(|(kind, place)| *kind == self.claimed_place(place).kind())
-    }
-
-    // Whether a stack of the claimed depth and kinds does not fault.
-    fn fits_its_stack(&self) -> bool
-        ensures { result ≡ fits_its_stack_of (claimed_of self.now) self.now.instruction }
-    {
-        self.begins(self.instruction.pops()) && usize::from(self.depth()) <= STACK_PLACES
     }
 
     // Whether what is stored goes to a variable whose level is high enough.
@@ -192,7 +180,7 @@ impl<L: Lattice> LabelCheck<'_, L> {
         if usize::from(label) == self.check.program.len() {
             return self.depth() == 0;
         }
-        // Not by `is_some_and`: of a closure that calls `all_fit_under` the search finds no result.
+        // Not by `is_some_and`: of a closure that calls `all_fit_under` the search for a proof finds nothing.
         match self.check.job.claim(label) {
             Some(next) => self.all_fit_under(next),
             None => false,
@@ -212,28 +200,35 @@ impl<L: Lattice> LabelCheck<'_, L> {
             .flatten()
             .all(|next| self.is_taken_by(next))
     }
-
-    // The first rule that the label breaks.
-    fn check_rules(&self, label: u8) -> Result<(), Rule>
-        ensures { rule_answer result
-            ≡ rule_at (order_of L.Lattice.order self.now) (levels_of self.now.check.now)
-            (job_of self.now.check.now) label (claimed_of self.now) self.now.instruction }
-    {
-        if !self.fits_its_stack() {
-            return Err(Rule::Stack);
-        }
-        if !self.stores_upward() {
-            return Err(Rule::Store);
-        }
-        if !self.successors_take(label) {
-            return Err(Rule::Successor);
-        }
-        Ok(())
-    }
 }
 
 impl<L: Lattice> JobCheck<'_, L> {
     ghost use Rattle.checker.specs.Views.{levels_of, job_of};
+
+    // The first rule that a claimed label breaks.
+    fn check_claim(&self, label: u8, claim: Claim, instruction: Instruction) -> Result<(), Rule>
+        ensures { rule_answer result
+            ≡ rule_at (L.Lattice.order self.now.lattice.now) (levels_of self.now) (job_of self.now)
+            label (claim_says self.now.job claim) instruction }
+    {
+        let kinds = self.job.stack_kinds(claim);
+        let Some(leaving) = kinds.and_then(|kinds| kinds.after(instruction)) else {
+            return Err(Rule::Stack);
+        };
+        let label_check = LabelCheck {
+            check: self,
+            claim,
+            instruction,
+            leaving,
+        };
+        if !label_check.stores_upward() {
+            return Err(Rule::Store);
+        }
+        if !label_check.successors_take(label) {
+            return Err(Rule::Successor);
+        }
+        Ok(())
+    }
 
     // The first rule that a label breaks, if it has a claim.
     pub(crate) fn check_label(&self, label: u8) -> Result<(), Rule>
@@ -244,12 +239,7 @@ impl<L: Lattice> JobCheck<'_, L> {
         let claim = self.job.claim(u16::from(label));
         let instruction = self.program.fetch(usize::from(label));
         match (claim, instruction) {
-            (Some(claim), Some(instruction)) => LabelCheck {
-                check: self,
-                claim,
-                instruction,
-            }
-            .check_rules(label),
+            (Some(claim), Some(instruction)) => self.check_claim(label, claim, instruction),
             _ => Ok(()),
         }
     }

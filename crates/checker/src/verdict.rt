@@ -4,6 +4,7 @@ ghost use Rattle.job.specs.Views.{sizes};
 ghost use Rattle.checker.specs.Faults.{mount_answer};
 ghost use Rattle.checker.specs.Rules.{label_rule, exit};
 ghost use Rattle.checker.specs.Verdict.{first_below, instruction_rule, claim_rule, branch_rule, code_below, rules_verdict, decoded_code, verdict as verdict_of};
+ghost use Rattle.checker.specs.Leaving.{LeavesTheKindsAfter};
 ghost use Rattle.checker.specs.Region.{MarksAreTheRegion};
 ghost use Rattle.checker.specs.WellClaimed.{Judged};
 ghost use Rattle.checker.specs.Flow.{AcceptedJobsNeverFault, AcceptedJobsKeepClosed};
@@ -129,6 +130,7 @@ pub fn check<L: Lattice>(lattice: &L, levels: &[u16], bytes: &[u8]) -> Result<Pr
     ensures accepts_exactly_the_mountable { Judged
         (L.Lattice.order lattice.now) levels.now bytes.now }
     ensures marks_are_the_region { MarksAreTheRegion }
+    ensures what_leaves_has_the_kinds_after { LeavesTheKindsAfter }
     ensures accepted_jobs_never_fault { AcceptedJobsNeverFault
         (L.Lattice.order lattice.now) levels.now bytes.now }
     ensures accepted_jobs_keep_closed { AcceptedJobsKeepClosed

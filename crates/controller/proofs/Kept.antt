@@ -48,16 +48,8 @@ run_of (good_running g safe long way) = (safe, way)
 
 -- Steps keep the number of values, and follow one another.
 rule_keeps_length : {code : List Instruction} {m n : Machine} → code ⊢ m ⟶ n → length (values_of n) ≡ length (values_of m)
-rule_keeps_length (rule.load a b c) = refl
 rule_keeps_length (rule.store {v = v} {t = t} {vs = vs} a b) = length-set vs v t
-rule_keeps_length (rule.push a b) = refl
-rule_keeps_length (rule.add a) = refl
-rule_keeps_length (rule.sub a) = refl
-rule_keeps_length (rule.eq a) = refl
-rule_keeps_length (rule.less a) = refl
-rule_keeps_length (rule.not a) = refl
-rule_keeps_length (rule.goto a) = refl
-rule_keeps_length (rule.gotof a) = refl
+rule_keeps_length _ = refl
 
 steps_keep_length : {code : List Instruction} {k : ℕ} {m n : Machine} → Steps code k m n → length (values_of n) ≡ length (values_of m)
 steps_keep_length runs.none = refl

@@ -5,7 +5,7 @@ use Rattle.std.specs.Int.{w32, cast_signed}
 use Rattle.std.specs.List.{range_with_len}
 use Rattle.std.specs.Option.{ok_or}
 use Rattle.push.specs.declared.instruction.Instruction.{Instruction}
-use Rattle.push.specs.declared.instruction.Instruction.TheVariants.{Load, Store, Push, Add, Sub, Eq, Less, Not, Goto, GotoF}
+use Rattle.push.specs.declared.instruction.Instruction.TheVariants.{Load, Store, Push, Add, Sub, Eq, Less, Not, Goto, GotoF, Copy, Swap, Drop}
 use Rattle.push.specs.declared.kind.Kind.{Kind}
 use Rattle.push.specs.declared.kind.Kind.TheVariants.{Integer, Boolean}
 use Rattle.job.specs.declared.claim.Place.{Place}
@@ -37,6 +37,9 @@ decoded exit operation junction operand =
     else if operation == 9 then then_some (bare && up_to exit operand) (Goto (natural operand))
     else if operation == 10 then
     then_some (nat_le junction exit && up_to exit operand) (GotoF (natural operand) junction)
+    else if operation == 11 then then_some (bare && up_to 0 operand) Copy
+    else if operation == 12 then then_some (bare && up_to 0 operand) Swap
+    else if operation == 13 then then_some (bare && up_to 0 operand) Drop
     else None
 
 -- The instruction in a record of six bytes: operation, junction byte, signed operand with its lower byte first.
@@ -73,6 +76,10 @@ level (BooleanAt l) = l
 pub record Claimed : Type 0 where
   pub surrounding : ℕ
   pub stack : List Place
+
+-- The kinds of a stack; none of more than eight places, since there is no such stack.
+abbrev pub stack_kinds : List Place → Option (List Kind)
+stack_kinds stack = if nat_le (length stack) 8 then Some (map kind stack) else None
 
 -- A claim record: mark, depth, surrounding level, and places of a kind byte and a level.
 abbrev pub place_in : List ℕ → ℕ → Place

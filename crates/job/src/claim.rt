@@ -1,16 +1,17 @@
 ghost use Rattle.std.specs.Prelude.{◌≡◌, IfSome, ◌+◌, ◌*◌, if◌then◌else◌, slice_index, slice_index_or};
 ghost use Rattle.job.specs.Faults.{record_answer};
 ghost use Rattle.job.specs.Layout.{claim_place, claim_record};
-ghost use Rattle.job.specs.Records.{all_below, two, like_a_place, like_a_claim, claim_in, place_in, kind as kind_of, level as level_of};
+ghost use Rattle.job.specs.Records.{all_below, two, like_a_place, like_a_claim, claim_in, place_in, stack_kinds, kind as kind_of, level as level_of};
 ghost use Rattle.job.specs.declared.claim.Place.TheVariants.{IntegerAt};
 ghost use Rattle.job.specs.Views.{sizes, claim_says, claimed};
 
 use crate::fault::RecordFault;
 use crate::part::{byte, tail, two, zeros};
 use crate::reader::Job;
-use push::Kind;
+use push::{Kind, StackKinds};
 
-/// What a label claims. The places of its stack are asked of its job, by `Job::stack_place`.
+/// What a label claims. The places of its stack are asked of its job, by `Job::stack_place`, and their kinds by
+/// `Job::stack_kinds`.
 #[derive(Clone, Copy, PartialEq, Eq, Debug)]
 pub struct Claim {
     /// How many places its stack has; in a checked record at most 8.
@@ -146,5 +147,18 @@ impl Job<'_> {
         } else {
             Place::IntegerAt(0)
         }
+    }
+
+    /// The kinds of a claim's stack, which has at most 8 places where the claim's record is like its description; none
+    /// where it has more than 8.
+    pub fn stack_kinds(&self, claim: Claim) -> Option<StackKinds>
+        ensures kinds_are_what_the_claim_says { result
+            ≡ stack_kinds (claim_says self.now claim).stack }
+    {
+        let mut kinds = StackKinds::empty();
+        for place in (0..u16::from(claim.depth)).rev() {
+            kinds = kinds.push(self.stack_place(claim, place).kind())?;
+        }
+        Some(kinds)
     }
 }

@@ -36,6 +36,9 @@ fn decoded(exit: u8, operation: u8, junction: u8, operand: i32) -> Option<Instru
                 junction,
             })
         }
+        11 if junction == 0 && operand == 0 => Some(Instruction::Copy),
+        12 if junction == 0 && operand == 0 => Some(Instruction::Swap),
+        13 if junction == 0 && operand == 0 => Some(Instruction::Drop),
         _ => None,
     }
 }

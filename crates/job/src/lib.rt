@@ -1,7 +1,8 @@
 //! The bytes of a job, which stay the caller's. `Job::read` sees that the opening fits the length; then each record is a
-//! part of the bytes, at a place that the opening's two sizes give, and is read only when it is asked for: the instruction
-//! at a label, the claim of a label, a stack place of a claim. What is unlike its description is a fault with the number
-//! that mount answers. What the instructions and the claims mean is said in `push` and `checker`.
+//! part of the bytes, at a place that the opening's two sizes give, and is read only when it is asked for: the
+//! instruction at a label, the claim of a label, a stack place of a claim, the kinds of its stack. What is unlike its
+//! description is a fault with the number that mount answers. What the instructions and the claims mean is said in `push`
+//! and `checker`.
 #![tactic(auto)]
 
 mod claim;

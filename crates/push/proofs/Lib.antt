@@ -1,4 +1,5 @@
-pub mod KindFacts
 pub mod StepFacts
 pub mod RunFacts
 pub mod AdvanceFacts
+pub mod NumberFacts
+pub mod StackKindsFacts

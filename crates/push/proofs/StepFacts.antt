@@ -5,11 +5,11 @@ use Rattle.std.proofs.lemmas.Bool.{lt-ltb, ltb-true, cond-true}
 use Rattle.std.proofs.lemmas.Option.{none-some, same_Some}
 use Rattle.std.specs.Ordering.{int_eq}
 use Rattle.push.specs.declared.instruction.Instruction.{Instruction}
-use Rattle.push.specs.declared.instruction.Instruction.TheVariants.{Load, Store, Push, Add, Sub, Eq, Less, Not, Goto, GotoF}
+use Rattle.push.specs.declared.instruction.Instruction.TheVariants.{Load, Store, Push, Add, Sub, Eq, Less, Not, Goto, GotoF, Copy, Swap, Drop}
 use Rattle.push.specs.declared.value.Value.{Value}
 use Rattle.push.specs.declared.value.Value.TheVariants.{Int, Flag}
 use Rattle.push.specs.Code.{fetch}
-use Rattle.push.specs.Machine.{Machine, at, ◌⊢◌⟶◌, load, store, push, add, sub, eq, less, not, goto, gotof, integers_on, pushed, combined, perform, step, StepFollowsTheRules}
+use Rattle.push.specs.Machine.{Machine, at, ◌⊢◌⟶◌, load, store, push, add, sub, eq, less, not, goto, gotof, copy, swap, drop, integers_on, pushed, combined, perform, step, StepFollowsTheRules}
 use Rattle.push.specs.Numbers.{sum, difference}
 
 module _ (code : List Instruction) where
@@ -28,6 +28,9 @@ module _ (code : List Instruction) where
   rule_steps (not {l} {b} {s} {vs} i) = ap (λ j. perform j l (Flag b ∷ s) vs) i
   rule_steps (goto {l} {m} {s} {vs} i) = ap (λ j. perform j l s vs) i
   rule_steps (gotof {l} {m} {j} {b} {s} {vs} i) = ap (λ k. perform k l (Flag b ∷ s) vs) i
+  rule_steps (copy {l} {t} {s} {vs} i h) = ap (λ j. perform j l (t ∷ s) vs) i ∙ room t l (t ∷ s) vs h
+  rule_steps (swap {l} {t} {u} {s} {vs} i) = ap (λ j. perform j l (t ∷ u ∷ s) vs) i
+  rule_steps (drop {l} {t} {s} {vs} i) = ap (λ j. perform j l (t ∷ s) vs) i
 
   kept : {X : Type 0} (b : Bool) (x : Option X) (n : X) → (if b then x else None) ≡ Some n → (b ≡ true) × (x ≡ Some n)
   kept true x n e = (refl, e)
@@ -68,6 +71,13 @@ module _ (code : List Instruction) where
   performed (Some (GotoF m j)) l [] vs n i e = absurd (none-some n e)
   performed (Some (GotoF m j)) l (Int t ∷ s) vs n i e = absurd (none-some n e)
   performed (Some (GotoF m j)) l (Flag b ∷ s) vs n i e = by_rule (gotof i) e
+  performed (Some Copy) l [] vs n i e = absurd (none-some n e)
+  performed (Some Copy) l (t ∷ s) vs n i e = let free = kept (nat_lt (length (t ∷ s)) 8) _ n e in by_rule (copy i (ltb-true (length (t ∷ s)) 8 free.0)) free.1
+  performed (Some Swap) l [] vs n i e = absurd (none-some n e)
+  performed (Some Swap) l (t ∷ []) vs n i e = absurd (none-some n e)
+  performed (Some Swap) l (t ∷ u ∷ s) vs n i e = by_rule (swap i) e
+  performed (Some Drop) l [] vs n i e = absurd (none-some n e)
+  performed (Some Drop) l (t ∷ s) vs n i e = by_rule (drop i) e
 
   pub steps_by_rule : (m n : Machine) → step code m ≡ Some n → code ⊢ m ⟶ n
   steps_by_rule (at l s vs) n e = performed (fetch code l) l s vs n refl e

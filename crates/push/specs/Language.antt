@@ -1,31 +1,40 @@
--- The language: what each instruction pops and pushes, and where it can go. Assumes nothing.
-use Rattle.std.specs.Prelude.{ℕ, ◌+◌, ◌-◌, Bool, true, false, ◌&&◌, List, [], ◌∷◌, ◌++◌, length, Some, None, Option, nat_le, option_to_list, if◌then◌else◌}
+-- The language: what each instruction asks of the stack and makes of it, and where it can go. Assumes nothing.
+use Rattle.std.specs.Prelude.{ℕ, ◌+◌, Bool, true, false, List, [], ◌∷◌, ◌++◌, length, Some, None, Option, nat_lt, option_to_list, if◌then◌else◌}
 use Rattle.push.specs.declared.instruction.Instruction.{Instruction}
-use Rattle.push.specs.declared.instruction.Instruction.TheVariants.{Load, Store, Push, Add, Sub, Eq, Less, Not, Goto, GotoF}
+use Rattle.push.specs.declared.instruction.Instruction.TheVariants.{Load, Store, Push, Add, Sub, Eq, Less, Not, Goto, GotoF, Copy, Swap, Drop}
 use Rattle.push.specs.declared.kind.Kind.{Kind}
 use Rattle.push.specs.declared.kind.Kind.TheVariants.{Integer, Boolean}
 
--- The kinds that an instruction pops, top first.
-abbrev pub pops : Instruction → List Kind
-pops (Store _) = Integer ∷ []
-pops Add = Integer ∷ Integer ∷ []
-pops Sub = Integer ∷ Integer ∷ []
-pops Eq = Integer ∷ Integer ∷ []
-pops Less = Integer ∷ Integer ∷ []
-pops Not = Boolean ∷ []
-pops (GotoF _ _) = Boolean ∷ []
-pops _ = []
+-- One more kind on top, where a place is free; and a kind in the place of two integers.
+abbrev pub one_more : Kind → List Kind → Option (List Kind)
+one_more k ks = if nat_lt (length ks) 8 then Some (k ∷ ks) else None
 
--- The kind that it pushes.
-abbrev pub pushes : Instruction → Option Kind
-pushes (Load _) = Some Integer
-pushes (Push _) = Some Integer
-pushes Add = Some Integer
-pushes Sub = Some Integer
-pushes Eq = Some Boolean
-pushes Less = Some Boolean
-pushes Not = Some Boolean
-pushes _ = None
+abbrev pub for_two_integers : Kind → List Kind → Option (List Kind)
+for_two_integers k (Integer ∷ Integer ∷ ks) = Some (k ∷ ks)
+for_two_integers k _ = None
+
+-- The kinds after an instruction on a stack of kinds, top first; none where it would fault.
+abbrev pub kinds_after : Instruction → List Kind → Option (List Kind)
+kinds_after (Load _) ks = one_more Integer ks
+kinds_after (Store _) (Integer ∷ ks) = Some ks
+kinds_after (Push _) ks = one_more Integer ks
+kinds_after Add ks = for_two_integers Integer ks
+kinds_after Sub ks = for_two_integers Integer ks
+kinds_after Eq ks = for_two_integers Boolean ks
+kinds_after Less ks = for_two_integers Boolean ks
+kinds_after Not (Boolean ∷ ks) = Some (Boolean ∷ ks)
+kinds_after (Goto _) ks = Some ks
+kinds_after (GotoF _ _) (Boolean ∷ ks) = Some ks
+kinds_after Copy (k ∷ ks) = one_more k (k ∷ ks)
+kinds_after Swap (k ∷ l ∷ ks) = Some (l ∷ k ∷ ks)
+kinds_after Drop (k ∷ ks) = Some ks
+kinds_after _ _ = None
+
+-- The variable that an instruction names.
+abbrev pub variable : Instruction → Option ℕ
+variable (Load v) = Some v
+variable (Store v) = Some v
+variable _ = None
 
 -- Whether it can go on to the next label.
 abbrev pub falls_through : Instruction → Bool
@@ -42,21 +51,3 @@ target _ = None
 abbrev pub successors : Instruction → ℕ → List ℕ
 successors i label =
     (if falls_through i then (label + 1) ∷ [] else []) ++ option_to_list (target i)
-
--- Whether two kinds are one.
-abbrev pub same_kind : Kind → Kind → Bool
-same_kind Integer Integer = true
-same_kind Boolean Boolean = true
-same_kind _ _ = false
-
--- Whether a stack of kinds begins with some.
-abbrev pub begins : List Kind → List Kind → Bool
-begins [] kinds = true
-begins (k ∷ ks) [] = false
-begins (k ∷ ks) (l ∷ kinds) = same_kind k l && begins ks kinds
-
--- Whether an instruction runs on a stack of these kinds: it finds what it pops, and no ninth place is needed.
-abbrev pub runs_on : Instruction → List Kind → Bool
-runs_on i kinds =
-    begins (pops i) kinds
-    && nat_le (length (option_to_list (pushes i)) + (length kinds - length (pops i))) 8

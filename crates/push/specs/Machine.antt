@@ -1,9 +1,9 @@
 -- The machine: its steps as a relation with a rule for each instruction, and as a function. Assumes nothing.
-use Rattle.std.specs.Prelude.{◌≡◌, ℕ, ◌+◌, ◌<◌, Bool, List, [], ◌∷◌, length, drop, ℤ, pos, Some, None, Option, nat_lt, slice_index_or, slice_set, int_lt, if◌then◌else◌, ◌↔◌}
+use Rattle.std.specs.Prelude.{◌≡◌, ℕ, ◌+◌, ◌<◌, Bool, List, [], ◌∷◌, length, ℤ, pos, Some, None, Option, nat_lt, slice_index_or, slice_set, int_lt, if◌then◌else◌, ◌↔◌}
 use Rattle.std.specs.Prelude as std
 use Rattle.std.specs.Ordering.{int_eq}
 use Rattle.push.specs.declared.instruction.Instruction.{Instruction}
-use Rattle.push.specs.declared.instruction.Instruction.TheVariants.{Load, Store, Push, Add, Sub, Eq, Less, Not, Goto, GotoF}
+use Rattle.push.specs.declared.instruction.Instruction.TheVariants.{Load, Store, Push, Add, Sub, Eq, Less, Not, Goto, GotoF, Copy, Swap, Drop}
 use Rattle.push.specs.declared.value.Value.{Value}
 use Rattle.push.specs.declared.value.Value.TheVariants.{Int, Flag}
 use Rattle.push.specs.Code.{fetch}
@@ -46,6 +46,15 @@ pub data ◌⊢◌⟶◌ (code : List Instruction) : Machine → Machine → Typ
   gotof : {l m j : ℕ} {b : Bool} {s : List Value} {vs : List ℤ} →
       fetch code l ≡ Some (GotoF m j) →
       code ⊢ at l (Flag b ∷ s) vs ⟶ at (if b then l + 1 else m) s vs
+  copy : {l : ℕ} {t : Value} {s : List Value} {vs : List ℤ} →
+      fetch code l ≡ Some Copy → length (t ∷ s) < 8 →
+      code ⊢ at l (t ∷ s) vs ⟶ at (l + 1) (t ∷ t ∷ s) vs
+  swap : {l : ℕ} {t u : Value} {s : List Value} {vs : List ℤ} →
+      fetch code l ≡ Some Swap →
+      code ⊢ at l (t ∷ u ∷ s) vs ⟶ at (l + 1) (u ∷ t ∷ s) vs
+  drop : {l : ℕ} {t : Value} {s : List Value} {vs : List ℤ} →
+      fetch code l ≡ Some Drop →
+      code ⊢ at l (t ∷ s) vs ⟶ at (l + 1) s vs
 
 -- What an instruction finds on top of a stack: an integer.
 abbrev pub integer_on : List Value → Option ℤ
@@ -72,20 +81,32 @@ loaded v l s vs = if nat_lt v 32 then pushed (Int (slice_index_or vs v (pos 0)))
 abbrev pub stored : ℕ → Option ℤ → ℕ → List Value → List ℤ → Option Machine
 stored v None l s vs = None
 stored v (Some t) l s vs =
-    if nat_lt v 32 then Some (at (l + 1) (drop 1 s) (slice_set vs v t)) else None
+    if nat_lt v 32 then Some (at (l + 1) (std.drop 1 s) (slice_set vs v t)) else None
 
 abbrev pub combined :
     (ℤ → ℤ → Value) → Option (ℤ × ℤ) → ℕ → List Value → List ℤ → Option Machine
 combined f None l s vs = None
-combined f (Some p) l s vs = Some (at (l + 1) (f p.0 p.1 ∷ drop 2 s) vs)
+combined f (Some p) l s vs = Some (at (l + 1) (f p.0 p.1 ∷ std.drop 2 s) vs)
 
 abbrev pub negated : Option Bool → ℕ → List Value → List ℤ → Option Machine
 negated None l s vs = None
-negated (Some b) l s vs = Some (at (l + 1) (Flag (std.not b) ∷ drop 1 s) vs)
+negated (Some b) l s vs = Some (at (l + 1) (Flag (std.not b) ∷ std.drop 1 s) vs)
 
 abbrev pub branched : ℕ → Option Bool → ℕ → List Value → List ℤ → Option Machine
 branched m None l s vs = None
-branched m (Some b) l s vs = Some (at (if b then l + 1 else m) (drop 1 s) vs)
+branched m (Some b) l s vs = Some (at (if b then l + 1 else m) (std.drop 1 s) vs)
+
+abbrev pub copied : ℕ → List Value → List ℤ → Option Machine
+copied l [] vs = None
+copied l (t ∷ s) vs = pushed t l (t ∷ s) vs
+
+abbrev pub swapped : ℕ → List Value → List ℤ → Option Machine
+swapped l (t ∷ u ∷ s) vs = Some (at (l + 1) (u ∷ t ∷ s) vs)
+swapped l _ vs = None
+
+abbrev pub dropped : ℕ → List Value → List ℤ → Option Machine
+dropped l [] vs = None
+dropped l (t ∷ s) vs = Some (at (l + 1) s vs)
 
 abbrev pub perform : Option Instruction → ℕ → List Value → List ℤ → Option Machine
 perform None l s vs = None
@@ -99,6 +120,9 @@ perform (Some Less) l s vs = combined (λ u t. Flag (int_lt u t)) (integers_on s
 perform (Some Not) l s vs = negated (flag_on s) l s vs
 perform (Some (Goto m)) l s vs = Some (at m s vs)
 perform (Some (GotoF m j)) l s vs = branched m (flag_on s) l s vs
+perform (Some Copy) l s vs = copied l s vs
+perform (Some Swap) l s vs = swapped l s vs
+perform (Some Drop) l s vs = dropped l s vs
 
 abbrev pub step : List Instruction → Machine → Option Machine
 step code (at l s vs) = perform (fetch code l) l s vs

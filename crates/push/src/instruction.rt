@@ -1,7 +1,5 @@
-ghost use Rattle.std.specs.Prelude.{◌≡◌, ◌≤◌, length, flat_map, option_to_list};
-ghost use Rattle.push.specs.Language.{pops as pops_of, pushes as pushes_of, falls_through, target as target_of, successors};
-
-use crate::kind::Kind;
+ghost use Rattle.std.specs.Prelude.{◌≡◌, flat_map, option_to_list};
+ghost use Rattle.push.specs.Language.{falls_through, target as target_of, successors};
 
 /// An instruction. Of a mounted job its variable is 0 to 31 and its labels are 0 to the exit; a program may hold others.
 #[derive(Clone, Copy, PartialEq, Eq, Debug)]
@@ -12,9 +10,9 @@ pub enum Instruction {
     Store(u8),
     /// Pushes its operand.
     Push(i32),
-    /// Pops t, then u, and pushes u + t, brought back into 32 bits.
+    /// Pops t, then u, and pushes the number of 32 bits that is nearest to u + t.
     Add,
-    /// Pops t, then u, and pushes u - t, brought back into 32 bits.
+    /// Pops t, then u, and pushes the number of 32 bits that is nearest to u - t.
     Sub,
     /// Pops two integers and pushes whether they are equal.
     Eq,
@@ -31,6 +29,12 @@ pub enum Instruction {
         /// The label where its two ways are claimed to meet again: the checker's alone, and nothing to a run.
         junction: u8,
     },
+    /// Pushes the top again.
+    Copy,
+    /// Exchanges the top two places.
+    Swap,
+    /// Takes the top away.
+    Drop,
 }
 
 /// The instruction goto 0: a program that is made holds it in the places that are not used yet, and no run meets it there.
@@ -45,41 +49,6 @@ impl Default for Instruction {
 }
 
 impl Instruction {
-    /// The kinds that it pops, top first.
-    pub fn pops(self) -> &'static [Kind]
-        ensures lists_the_kinds_popped { result.now ≡ pops_of self }
-    {
-        match self {
-            Instruction::Load(_) | Instruction::Push(_) | Instruction::Goto(_) => &[],
-            Instruction::Store(_) => &[Kind::Integer],
-            Instruction::Add | Instruction::Sub | Instruction::Eq | Instruction::Less => &[
-                Kind::Integer,
-                Kind::Integer,
-            ],
-            Instruction::Not | Instruction::GotoF { .. } => &[Kind::Boolean],
-        }
-    }
-
-    /// How many places it pops.
-    pub fn popped(self) -> u16
-        ensures counts_the_kinds_popped { result ≡ length (pops_of self) }
-        ensures at_most_2 { result ≤ 2 }
-    {
-        self.pops().len() as u16
-    }
-
-    /// The kind that it pushes, if it pushes.
-    pub fn pushes(self) -> Option<Kind>
-        ensures is_the_kind_pushed { result ≡ pushes_of self }
-    {
-        match self {
-            Instruction::Load(_) | Instruction::Push(_) | Instruction::Add | Instruction::Sub =>
-                Some(Kind::Integer),
-            Instruction::Eq | Instruction::Less | Instruction::Not => Some(Kind::Boolean),
-            Instruction::Store(_) | Instruction::Goto(_) | Instruction::GotoF { .. } => None,
-        }
-    }
-
     /// Whether it can go on to the next label: all but goto can.
     pub fn falls_through(self) -> bool
         ensures all_but_goto_fall_through { result ≡ falls_through self }

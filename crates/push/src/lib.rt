@@ -1,13 +1,15 @@
-//! PUSH, a small stack language, and the machine that runs it: its ten instructions, with the kinds that they pop and push
-//! and the labels that they go to; programs of them; and a run of a program, which makes steps until its budget is used
-//! up, or it comes to the exit, or no rule of the machine applies. Levels and claims are for the crates above.
+//! PUSH, a small stack language, and the machine that runs it: its thirteen instructions, with what they make of the kinds
+//! of a stack and the labels that they go to; programs of them; and a run of a program, which makes steps until its budget
+//! is used up, or it comes to the exit, or no rule of the machine applies. Levels and claims are for the crates above.
 #![tactic(auto)]
 
 mod instruction;
 mod kind;
+mod number;
 mod program;
 mod run;
 mod stack;
+mod stack_kinds;
 mod status;
 mod value;
 
@@ -15,6 +17,7 @@ pub use instruction::Instruction;
 pub use kind::Kind;
 pub use program::{Program, ProgramFull};
 pub use run::Run;
+pub use stack_kinds::StackKinds;
 pub use status::Status;
 
 /// How many places the stack has.

@@ -1,9 +1,12 @@
 ghost use Rattle.std.specs.Prelude.{◌≡◌, ◌+◌, ◌<◌, ◌≤◌, true, [], ◌∷◌, length, drop, is_some, Some, None, MatchOption};
-ghost use Rattle.push.specs.Machine.{at, pushed, loaded, stored, negated, branched, integers_on, integer_on, flag_on, StepFollowsTheRules};
+ghost use Rattle.push.specs.Machine.{at, pushed, loaded, stored, negated, branched, copied, swapped, dropped, integers_on, integer_on, flag_on, StepFollowsTheRules};
+ghost use Rattle.push.specs.Numbers.{SumsStopAtTheEnds};
+ghost use Rattle.push.specs.StackKinds.{StepsGoByKinds};
 ghost use Rattle.push.specs.Run.{label_of, stack_of, values_of, begun, run, CountedSteps, TrueStatus, AdvancesTo, NewRunsAreTrue};
 
 use crate::VARIABLES;
 use crate::instruction::Instruction;
+use crate::number::nearest;
 use crate::program::Program;
 use crate::stack::Stack;
 use crate::status::Status;
@@ -72,6 +75,8 @@ impl Run {
             self.old.program budget self.old.state result.1 self.new.state }
         ensures new_runs_are_true { NewRunsAreTrue }
         ensures steps_follow_the_rules { StepFollowsTheRules }
+        ensures steps_go_by_kinds { StepsGoByKinds }
+        ensures sums_stop_at_the_ends { SumsStopAtTheEnds }
     {
         let steps = self.steps(budget);
         (self.status, steps)
@@ -128,16 +133,19 @@ impl Run {
             (Status::Going, Some(&Instruction::Store(variable))) => self.store(variable),
             (Status::Going, Some(&Instruction::Push(number))) => self.push(Value::Int(number)),
             (Status::Going, Some(Instruction::Add)) => {
-                self.combine(|u, t| Value::Int(u.wrapping_add(t)))
+                self.combine(|u, t| Value::Int(nearest(i64::from(u) + i64::from(t))))
             }
             (Status::Going, Some(Instruction::Sub)) => {
-                self.combine(|u, t| Value::Int(u.wrapping_sub(t)))
+                self.combine(|u, t| Value::Int(nearest(i64::from(u) - i64::from(t))))
             }
             (Status::Going, Some(Instruction::Eq)) => self.combine(|u, t| Value::Flag(u == t)),
             (Status::Going, Some(Instruction::Less)) => self.combine(|u, t| Value::Flag(u < t)),
             (Status::Going, Some(Instruction::Not)) => self.negate(),
             (Status::Going, Some(&Instruction::Goto(target))) => self.go(usize::from(target)),
             (Status::Going, Some(&Instruction::GotoF { target, .. })) => self.branch(target),
+            (Status::Going, Some(Instruction::Copy)) => self.copy_top(),
+            (Status::Going, Some(Instruction::Swap)) => self.swap_top_two(),
+            (Status::Going, Some(Instruction::Drop)) => self.drop_top(),
             (Status::Going, None) => None,
             (Status::Halted | Status::Faulted, _) => None,
         }
@@ -259,5 +267,41 @@ impl Run {
             }
             _ => None,
         }
+    }
+
+    // Pushes the top again.
+    fn copy_top(&mut self) -> Option<()>
+        requires { label_of self.old.state.machine < 128 }
+        ensures { (is_some result, self.new) ≡ stepped_by self.old copied }
+    {
+        // Two arms: with a value that was copied whole, a step of the nest of branches took a seventh longer.
+        match self.stack.places() {
+            &[Value::Int(number), ..] => self.push(Value::Int(number)),
+            &[Value::Flag(flag), ..] => self.push(Value::Flag(flag)),
+            [] => None,
+        }
+    }
+
+    // Exchanges the top two places.
+    fn swap_top_two(&mut self) -> Option<()>
+        requires { label_of self.old.state.machine < 128 }
+        ensures { (is_some result, self.new) ≡ stepped_by self.old swapped }
+    {
+        let &[top, under, ..] = self.stack.places() else {
+            return None;
+        };
+        self.stack.put(2, top);
+        self.put(0, under)
+    }
+
+    // Takes the top away.
+    fn drop_top(&mut self) -> Option<()>
+        requires { label_of self.old.state.machine < 128 }
+        ensures { (is_some result, self.new) ≡ stepped_by self.old dropped }
+    {
+        if self.stack.places().is_empty() {
+            return None;
+        }
+        self.pop()
     }
 }

@@ -20,7 +20,7 @@ returns-then-depth-from g c =
     let deep = depth_said job next in
     all_from_yields_List (fits_at o left taken (IntegerAt 0)) c.all.new.self _ c.all.result c.all.ensures.ran
     (YieldsList-from_range 0 n n (cc) (omega arith)) (λ x b q k. search (rules, tests))
-    ∙ sym (all_fit_at o left taken (IntegerAt 0) 0 n (omega (arith, c.depth-depth.ensures.value)) (omega (arith, deep, c.from.ensures, c.if-depth-from.true)))
+    ∙ sym (all_fit_at o left taken (IntegerAt 0) 0 n (omega (arith, c.depth-depth.ensures)) (omega (arith, deep, c.from.ensures, c.if-depth-from.true)))
 
 pub returns-else-depth-from : goal.returns-else-depth-from
 returns-else-depth-from g c =
@@ -31,4 +31,4 @@ returns-else-depth-from g c =
     let deep = depth_said job next in
     let other : c.depth-depth.result ≡ c.from.result → ⊥ = c.if-depth-from.false in
     ne_eqb c.depth-depth.result c.from.result other
-    ∙ sym (lengths_differ o left (claim_says job next).stack (λ e. other (omega (arith, c.depth-depth.ensures.value, e, deep, c.from.ensures))))
+    ∙ sym (lengths_differ o left (claim_says job next).stack (λ e. other (omega (arith, c.depth-depth.ensures, e, deep, c.from.ensures))))
