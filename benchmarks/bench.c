@@ -15,7 +15,7 @@ uint32_t nextabur_mount(const uint8_t *job, size_t length);
 uint64_t nextabur_run(const uint8_t *job, size_t length, uint32_t budget);
 
 enum { LABELS = 128, PLACES = 8, VARIABLES = 32, LONGEST = 4356 };
-enum { LOAD = 1, STORE, PUSH, ADD, SUB, EQ, LESS, NOT, GOTO, GOTOF, EXIT };
+enum { LOAD = 1, STORE, PUSH, ADD, SUB, EQ, LESS, NOT, GOTO, GOTOF, COPY, SWAP, DROP, EXIT };
 enum { GOING, HALTED, FAULTED };
 enum { INTEGER, BOOLEAN };
 
@@ -86,7 +86,14 @@ static void claim_all(const Job *job, Claim *claims)
         case LOAD: case PUSH: c.kinds[c.depth++] = INTEGER; break;
         case ADD: case SUB: c.kinds[--c.depth - 1] = INTEGER; break;
         case EQ: case LESS: c.kinds[--c.depth - 1] = BOOLEAN; break;
-        case STORE: case GOTOF: c.depth--; break;
+        case STORE: case GOTOF: case DROP: c.depth--; break;
+        case COPY: c.kinds[c.depth] = c.kinds[c.depth - 1]; c.depth++; break;
+        case SWAP: {
+            uint8_t top = c.kinds[c.depth - 1];
+            c.kinds[c.depth - 1] = c.kinds[c.depth - 2];
+            c.kinds[c.depth - 2] = top;
+            break;
+        }
         }
         if (i.op != GOTO)
             flow(claims, l + 1, &c, job->n);
@@ -216,6 +223,141 @@ static void make_straight(Job *job)
     finish(job);
 }
 
+/* Makes ten variables anew in turn, each as x - y + c of the two before it: 116 instructions, of which 55 copy, swap or
+ * drop. No value comes near an end of the range, and three rounds bring back the same values. */
+static void make_copies(Job *job)
+{
+    *job = (Job){.name = "copies and swaps", .places = 4};
+    for (int block = 0; block < 10; block++) {
+        int32_t c = 7919 * (block + 1);
+        int32_t x = (block + 9) % 10, y = (block + 8) % 10;
+        if (block % 2 == 0) { /* (x + c) - y */
+            add(job, LOAD, y);
+            add(job, LOAD, x);
+            add(job, COPY, 0);
+            add(job, PUSH, c);
+            add(job, ADD, 0);
+            add(job, SWAP, 0);
+            add(job, DROP, 0);
+            add(job, SWAP, 0);
+        } else { /* x - (y - c) */
+            add(job, LOAD, x);
+            add(job, LOAD, y);
+            add(job, COPY, 0);
+            add(job, PUSH, c);
+            add(job, SUB, 0);
+            add(job, SWAP, 0);
+            add(job, DROP, 0);
+        }
+        add(job, SUB, 0);
+        add(job, COPY, 0);
+        add(job, STORE, block);
+        add(job, DROP, 0);
+    }
+    add(job, GOTO, 0);
+    finish(job);
+}
+
+/* A test pops a value. A run answers only its status and its steps, so a job of tests halts after them, and goes round
+ * for ever where one fails. */
+static void expect(Job *job, int32_t number)
+{
+    add(job, PUSH, number);
+    add(job, EQ, 0);
+    add(job, GOTOF, 0);
+}
+
+/* Every gotoF of a job of tests is a test, and goes to the label that goes to itself. */
+static void end_tests(Job *job)
+{
+    uint32_t over = add(job, GOTO, 0);
+    uint32_t failed = add(job, GOTO, (int32_t)job->n);
+    lands_here(job, over);
+    for (uint32_t l = 0; l < over; l++) {
+        if (job->code[l].op == GOTOF) {
+            job->code[l].operand = (int32_t)failed;
+            job->code[l].junction = (uint8_t)(l + 1);
+        }
+    }
+    finish(job);
+}
+
+/* Sums and differences at the ends of the range and past them: 122 instructions. */
+static void make_ends(Job *job)
+{
+    static const struct {
+        int32_t u, t, sum, difference;
+    } rows[] = {
+        {INT32_MAX, 1, INT32_MAX, INT32_MAX - 1},
+        {INT32_MAX, -1, INT32_MAX - 1, INT32_MAX},
+        {INT32_MIN, 1, INT32_MIN + 1, INT32_MIN},
+        {INT32_MIN, -1, INT32_MIN, INT32_MIN + 1},
+        {INT32_MAX, INT32_MAX, INT32_MAX, 0},
+        {INT32_MIN, INT32_MIN, INT32_MIN, 0},
+        {INT32_MAX, INT32_MIN, -1, INT32_MAX},
+        {INT32_MIN, INT32_MAX, -1, INT32_MIN},
+        {0, INT32_MIN, INT32_MIN, INT32_MAX},
+        {-1, INT32_MIN, INT32_MIN, INT32_MAX},
+    };
+    *job = (Job){.name = "ends of the range", .places = 2};
+    for (size_t row = 0; row < sizeof rows / sizeof rows[0]; row++) {
+        add(job, PUSH, rows[row].u);
+        add(job, PUSH, rows[row].t);
+        add(job, ADD, 0);
+        expect(job, rows[row].sum);
+        add(job, PUSH, rows[row].u);
+        add(job, PUSH, rows[row].t);
+        add(job, SUB, 0);
+        expect(job, rows[row].difference);
+    }
+    end_tests(job);
+}
+
+/* What copy, swap and drop leave of integers, of booleans and of a full stack: 54 instructions. */
+static void make_shapes(Job *job)
+{
+    *job = (Job){.name = "shapes of the stack", .places = PLACES};
+    add(job, PUSH, 3); /* 7 - (3 + 3) */
+    add(job, COPY, 0);
+    add(job, ADD, 0);
+    add(job, PUSH, 7);
+    add(job, SWAP, 0);
+    add(job, SUB, 0);
+    expect(job, 1);
+
+    add(job, PUSH, 4);
+    add(job, PUSH, 5);
+    add(job, DROP, 0);
+    expect(job, 4);
+
+    add(job, PUSH, 7); /* 7 and true change places, and 7 is stored */
+    add(job, PUSH, 1);
+    add(job, PUSH, 2);
+    add(job, LESS, 0);
+    add(job, SWAP, 0);
+    add(job, STORE, 1);
+    add(job, GOTOF, 0);
+    add(job, LOAD, 1);
+    expect(job, 7);
+
+    add(job, PUSH, 2); /* of false and its opposite, made of a copy, the opposite is left */
+    add(job, PUSH, 1);
+    add(job, LESS, 0);
+    add(job, COPY, 0);
+    add(job, NOT, 0);
+    add(job, SWAP, 0);
+    add(job, DROP, 0);
+    add(job, GOTOF, 0);
+
+    add(job, PUSH, 1); /* eight times 1 */
+    for (int place = 1; place < PLACES; place++)
+        add(job, COPY, 0);
+    for (int place = 1; place < PLACES; place++)
+        add(job, ADD, 0);
+    expect(job, PLACES);
+    end_tests(job);
+}
+
 /* The largest job, 128 instructions and 4,356 bytes, with 16 branches over stacks of up to 8 places. */
 static void make_largest(Job *job)
 {
@@ -273,14 +415,21 @@ typedef struct {
     uint32_t steps;
 } End;
 
-static int32_t wrapping_add(int32_t u, int32_t t)
+/* Sums and differences stop at the ends of the range. Which end is passed shows in the sign of t. */
+static int32_t nearest_add(int32_t u, int32_t t)
 {
-    return (int32_t)((uint32_t)u + (uint32_t)t);
+    int32_t exact;
+    if (__builtin_add_overflow(u, t, &exact))
+        return t < 0 ? INT32_MIN : INT32_MAX;
+    return exact;
 }
 
-static int32_t wrapping_sub(int32_t u, int32_t t)
+static int32_t nearest_sub(int32_t u, int32_t t)
 {
-    return (int32_t)((uint32_t)u - (uint32_t)t);
+    int32_t exact;
+    if (__builtin_sub_overflow(u, t, &exact))
+        return t < 0 ? INT32_MAX : INT32_MIN;
+    return exact;
 }
 
 typedef struct {
@@ -320,14 +469,14 @@ static End run_checked(const Instruction *code, uint32_t n, int32_t *values, uin
             if (depth < 2 || stack[depth - 1].kind != INTEGER || stack[depth - 2].kind != INTEGER)
                 return (End){FAULTED, steps};
             depth--;
-            stack[depth - 1].number = wrapping_add(stack[depth - 1].number, stack[depth].number);
+            stack[depth - 1].number = nearest_add(stack[depth - 1].number, stack[depth].number);
             label++;
             break;
         case SUB:
             if (depth < 2 || stack[depth - 1].kind != INTEGER || stack[depth - 2].kind != INTEGER)
                 return (End){FAULTED, steps};
             depth--;
-            stack[depth - 1].number = wrapping_sub(stack[depth - 1].number, stack[depth].number);
+            stack[depth - 1].number = nearest_sub(stack[depth - 1].number, stack[depth].number);
             label++;
             break;
         case EQ:
@@ -357,6 +506,28 @@ static End run_checked(const Instruction *code, uint32_t n, int32_t *values, uin
             if (depth < 1 || stack[depth - 1].kind != BOOLEAN)
                 return (End){FAULTED, steps};
             label = stack[--depth].number ? label + 1 : (uint32_t)i.operand;
+            break;
+        case COPY:
+            if (depth < 1 || depth == PLACES)
+                return (End){FAULTED, steps};
+            stack[depth] = stack[depth - 1];
+            depth++;
+            label++;
+            break;
+        case SWAP: {
+            if (depth < 2)
+                return (End){FAULTED, steps};
+            Value top = stack[depth - 1];
+            stack[depth - 1] = stack[depth - 2];
+            stack[depth - 2] = top;
+            label++;
+            break;
+        }
+        case DROP:
+            if (depth < 1)
+                return (End){FAULTED, steps};
+            depth--;
+            label++;
             break;
         default:
             __builtin_unreachable();
@@ -391,12 +562,12 @@ static End run_unchecked(const Instruction *code, int32_t *values, uint32_t budg
             break;
         case ADD:
             top--;
-            top[-1] = wrapping_add(top[-1], top[0]);
+            top[-1] = nearest_add(top[-1], top[0]);
             at++;
             break;
         case SUB:
             top--;
-            top[-1] = wrapping_sub(top[-1], top[0]);
+            top[-1] = nearest_sub(top[-1], top[0]);
             at++;
             break;
         case EQ:
@@ -419,6 +590,22 @@ static End run_unchecked(const Instruction *code, int32_t *values, uint32_t budg
         case GOTOF:
             at = *--top ? at + 1 : code + at->operand;
             break;
+        case COPY:
+            top[0] = top[-1];
+            top++;
+            at++;
+            break;
+        case SWAP: {
+            int32_t last = top[-1];
+            top[-1] = top[-2];
+            top[-2] = last;
+            at++;
+            break;
+        }
+        case DROP:
+            top--;
+            at++;
+            break;
         case EXIT:
             return (End){HALTED, steps};
         default:
@@ -430,6 +617,8 @@ static End run_unchecked(const Instruction *code, int32_t *values, uint32_t budg
 }
 
 /* ---- Engines and measurements. */
+
+enum { JOBS = 4 }; /* that are measured */
 
 enum { PROVED, CHECKED, UNCHECKED, ENGINES };
 static const char *const engine_names[ENGINES] = {"proved", "checked", "unchecked"};
@@ -453,6 +642,13 @@ static void must_agree(const Job *job, uint32_t budget)
     uint64_t proved = run(PROVED, job, budget);
     if (run(CHECKED, job, budget) != proved || run(UNCHECKED, job, budget) != proved)
         die("the three do not agree", job->name);
+}
+
+/* A job of tests halts only where none of them fails. */
+static void must_halt(const Job *job)
+{
+    if (run(PROVED, job, 2000) >> 32 != HALTED)
+        die("does not halt", job->name);
 }
 
 static double seconds(void)
@@ -500,30 +696,38 @@ static void measure_mount(const Job *job, uint32_t branches, int calls, int time
 
 int main(int argc, char **argv)
 {
-    static Job jobs[3], short_loop, largest, most;
+    static Job jobs[JOBS], short_loop, ends, shapes, largest, most;
     uint32_t most_branches;
     make_counting_loop(&jobs[0], "counting loop", 2000000000);
     make_nest(&jobs[1]);
     make_straight(&jobs[2]);
+    make_copies(&jobs[3]);
 
     if (argc == 4) { /* ENGINE JOB BUDGET: one run, for a count of its machine instructions */
         for (int engine = 0; engine < ENGINES; engine++)
             if (strcmp(argv[1], engine_names[engine]) == 0)
-                printf("%llu\n", (unsigned long long)run(engine, &jobs[atoi(argv[2]) % 3], (uint32_t)strtoul(argv[3], 0, 10)));
+                printf("%llu\n", (unsigned long long)run(engine, &jobs[atoi(argv[2]) % JOBS], (uint32_t)strtoul(argv[3], 0, 10)));
         return 0;
     }
 
     make_counting_loop(&short_loop, "short loop", 20);
+    make_ends(&ends);
+    make_shapes(&shapes);
     make_largest(&largest);
     make_most_branches(&most, &most_branches);
+    must_halt(&short_loop);
+    must_halt(&ends);
+    must_halt(&shapes);
     for (uint32_t budget = 0; budget < 2000; budget++) {
-        for (int job = 0; job < 3; job++)
+        for (int job = 0; job < JOBS; job++)
             must_agree(&jobs[job], budget);
         must_agree(&short_loop, budget);
+        must_agree(&ends, budget);
+        must_agree(&shapes, budget);
         must_agree(&largest, budget);
     }
 
-    for (int job = 0; job < 3; job++)
+    for (int job = 0; job < JOBS; job++)
         measure(&jobs[job], 100000000, 3);
     measure_mount(&largest, 16, 200, 3);
     measure_mount(&most, most_branches, 200, 3);

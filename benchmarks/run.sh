@@ -68,7 +68,7 @@ echo "Machine instructions a step: $steps steps, less a run of none."
 echo
 printf '%-20s %9s %9s %11s %14s %16s\n' job proved 'checked C' 'unchecked C' proved/checked proved/unchecked
 job=0
-for name in 'counting loop' 'nest of branches' 'straight arithmetic'; do
+for name in 'counting loop' 'nest of branches' 'straight arithmetic' 'copies and swaps'; do
     counts=
     for engine in proved checked unchecked; do
         counts="$counts $(($(collected "$engine" $job $steps) - $(collected "$engine" $job 0)))"
