@@ -223,6 +223,16 @@ static void make_straight(Job *job)
     finish(job);
 }
 
+/* Adds a constant to a copy of the top, or takes it away, and drops the original: 5 instructions. */
+static void change_copy(Job *job, uint8_t op, int32_t by)
+{
+    add(job, COPY, 0);
+    add(job, PUSH, by);
+    add(job, op, 0);
+    add(job, SWAP, 0);
+    add(job, DROP, 0);
+}
+
 /* Makes ten variables anew in turn, each as x - y + c of the two before it: 116 instructions, of which 55 copy, swap or
  * drop. No value comes near an end of the range, and three rounds bring back the same values. */
 static void make_copies(Job *job)
@@ -234,20 +244,12 @@ static void make_copies(Job *job)
         if (block % 2 == 0) { /* (x + c) - y */
             add(job, LOAD, y);
             add(job, LOAD, x);
-            add(job, COPY, 0);
-            add(job, PUSH, c);
-            add(job, ADD, 0);
-            add(job, SWAP, 0);
-            add(job, DROP, 0);
+            change_copy(job, ADD, c);
             add(job, SWAP, 0);
         } else { /* x - (y - c) */
             add(job, LOAD, x);
             add(job, LOAD, y);
-            add(job, COPY, 0);
-            add(job, PUSH, c);
-            add(job, SUB, 0);
-            add(job, SWAP, 0);
-            add(job, DROP, 0);
+            change_copy(job, SUB, c);
         }
         add(job, SUB, 0);
         add(job, COPY, 0);
