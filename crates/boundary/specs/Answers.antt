@@ -5,10 +5,11 @@ use Rattle.lattice.specs.Kinds.{ladder}
 use Rattle.push.specs.declared.instruction.Instruction.{Instruction}
 use Rattle.push.specs.Run.{RunState, begun, run, status_number}
 use Rattle.job.specs.Layout.{opening}
+use Rattle.checker.specs.Faults.{Answered}
 use Rattle.checker.specs.Verdict.{verdict, decoded_code}
 
 -- Over a ladder of 16, with each of the 32 variables at level 0.
-abbrev pub verdict_on : List ℕ → ℕ × ℕ
+abbrev pub verdict_on : List ℕ → Answered
 verdict_on job = verdict (ladder 16) (replicate 32 0) job
 
 abbrev pub code_in : List ℕ → List Instruction
@@ -17,8 +18,8 @@ code_in job = decoded_code job (opening job)
 abbrev pub zeros : List ℤ
 zeros = replicate 32 (pos 0)
 
--- The number and the label of a verdict.
-abbrev pub mount_number : ℕ × ℕ → ℕ
+-- The number and the label of a verdict; its cause does not cross.
+abbrev pub mount_number : Answered → ℕ
 mount_number v = v.0 * 65536 + v.1
 
 -- The status and the steps of a run.

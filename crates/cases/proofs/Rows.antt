@@ -1,9 +1,9 @@
 -- Every worked case computes to its answer; that the empty job has halted is by induction on the budgets. Assumes nothing.
 use Rattle.std.proofs.Common.{◌≡◌, ℕ, zero, suc, ℤ, List, [], ◌∷◌, length, replicate, refl, ap}
 use Rattle.push.specs.Run.{run}
-use Rattle.job.specs.Records.{all_below}
+use Rattle.job.specs.First.{first_below}
 use Rattle.checker.specs.Region.{spread_below, spread_times}
-use Rattle.checker.specs.Verdict.{first_below, code_below}
+use Rattle.checker.specs.Verdict.{code_below}
 use Rattle.cases.specs.Worked.{WorkedCases, advances}
 
 -- The empty job has halted when it is started, and no advance changes that.
@@ -14,7 +14,7 @@ stays_halted values (zero ∷ budgets) = ap (λ answers. (1, 0) ∷ answers) (st
 stays_halted values (suc budget ∷ budgets) = ap (λ answers. (1, 0) ∷ answers) (stays_halted values budgets)
 
 pub rows : WorkedCases
-unfolding all_below spread_below spread_times first_below code_below run
+unfolding first_below spread_below spread_times code_below run
 rows = record {
   five_not_at_most_nine = refl;
   five_join_three = refl;
@@ -45,6 +45,44 @@ rows = record {
   drop_on_no_place = refl;
   bool_accepted = refl;
   bool_claimed_under = refl;
+  no_bytes = refl;
+  three_bytes = refl;
+  two_bytes = refl;
+  many_instructions = refl;
+  many_places = refl;
+  no_records = refl;
+  no_room = refl;
+  last_byte_missing = refl;
+  byte_too_much = refl;
+  store_to_32 = refl;
+  operation_0 = refl;
+  operation_14 = refl;
+  operation_before_junction = refl;
+  junction_byte_of_push = refl;
+  operand_of_eq = refl;
+  negative_operand = refl;
+  target_above_exit = refl;
+  junction_before_target = refl;
+  instructions_before_claims = refl;
+  place_at_16 = refl;
+  mark_2 = refl;
+  depth_without_claim = refl;
+  surrounding_without_claim = refl;
+  kind_without_claim = refl;
+  level_without_claim = refl;
+  depth_3 = refl;
+  surrounded_by_16 = refl;
+  kind_2 = refl;
+  kind_2_under = refl;
+  level_16_under = refl;
+  level_259_under = refl;
+  kind_past_the_depth = refl;
+  level_past_the_depth = refl;
+  entry_claims_an_int = refl;
+  store_surrounded_by_15 = refl;
+  target_refuses = refl;
+  next_and_target_refuse = refl;
+  two_of_the_region_too_low = refl;
   empty_job_stays_halted = stays_halted;
   job_b_runs = refl;
   job_b_ends = refl;

@@ -1,27 +1,29 @@
--- Each rule's test decides the relation that the rule names. Assumes nothing.
-use Rattle.std.proofs.Common.{◌≡◌, ℕ, ◌≤◌, Bool, true, false, not, ◌||◌, eqb, leb, List, [], ◌∷◌, map, length, get_or, is_some, Some, None, Option, sym, refl, ap, ◌∙◌, subst, ⊎_elim, arith}
-use Rattle.std.specs.List.{Contains}
-use Rattle.checker.proofs.ContainsFacts.{contains_first, contains_rest, contains_cases, contains_none}
+-- Each rule's test decides the relation that the rule names, and what it names is what the relation says is first. Assumes
+-- nothing.
+use Rattle.std.proofs.Common.{◌≡◌, ℕ, ◌<◌, ◌≤◌, Bool, true, false, not, ◌||◌, cond, eqb, leb, List, [], ◌∷◌, map, length, get_or, is_some, Some, None, Option, sym, refl, ap, ◌∙◌, subst, ⊎_elim, arith}
+use Rattle.std.specs.List.{Contains, find}
 use Rattle.std.specs.Prelude.{◌↔◌, IsTrue}
-use Rattle.std.specs.List.{list_all}
-use Rattle.std.specs.Option.{option_and_then}
+use Rattle.std.specs.Option.{option_and_then, option_or}
 use Rattle.std.proofs.lemmas.Bool.{and_parts, and_from, leb-true, leb-false, eq-eqb, ne_eqb, cases_Bool, cases_eq, cond-true, cond-false, false≢true, false_from_ne_true}
+use Rattle.std.proofs.lemmas.List.Folds.{find-append}
 use Rattle.lattice.specs.Order.{Order}
 use Rattle.push.specs.declared.instruction.Instruction.{Instruction}
-use Rattle.push.specs.declared.instruction.Instruction.TheVariants.{Load, Store, Push, Add, Sub, Eq, Less, Not, Goto, GotoF, Copy, Swap, Drop}
+use Rattle.push.specs.declared.instruction.Instruction.TheVariants.{Store, GotoF}
 use Rattle.push.specs.declared.kind.Kind.{Kind}
 use Rattle.push.specs.Language.{kinds_after, successors}
 use Rattle.job.specs.declared.claim.Place.{Place}
 use Rattle.job.specs.declared.claim.Place.TheVariants.{IntegerAt, BooleanAt}
+use Rattle.job.specs.First.{first_below}
 use Rattle.job.specs.Records.{Claimed, kind}
+use Rattle.job.proofs.FirstFacts.{Clear, Found, first_found, none_below, search_first}
 use Rattle.job.proofs.Stacks.{kinds_within, kinds_past}
-use Rattle.job.proofs.AllBelow.{all_below_holds, all_below_from}
 use Rattle.checker.specs.Leaving.{joined_one, leaves, level_at, all_fit_under}
-use Rattle.checker.specs.Rules.{ProgramWithClaims, exit, is_empty, claim_takes, takes, fits_its_stack, stores_upward, successors_take}
+use Rattle.checker.specs.Rules.{ProgramWithClaims, exit, fits_its_stack, lowered_variable, is_empty, claim_takes, takes, first_refusing}
 use Rattle.checker.specs.Region.{Region, region}
+use Rattle.checker.specs.Verdict.{claim_at_least, is_surrounded_if_marked, too_low}
+use Rattle.checker.specs.WellClaimed.{FitsItsStack, StoresUpward, Under, none, integer, boolean, Takes, at_exit, by_claim, SuccessorsTake, AvoidsExit, Surrounded, RegionRaised, FirstRefusing, LowestTooLow}
+use Rattle.checker.proofs.ContainsFacts.{contains_first, contains_rest, contains_cases, contains_none}
 use Rattle.checker.proofs.RegionSet.{marks_are_region, region_is_marked}
-use Rattle.checker.specs.Verdict.{claim_at_least, is_surrounded_if_marked, marked_at_least}
-use Rattle.checker.specs.WellClaimed.{FitsItsStack, StoresUpward, Under, none, integer, boolean, Takes, at_exit, by_claim, SuccessorsTake, AvoidsExit, Surrounded, RegionRaised}
 
 -- an option's test and what it holds
 held : {X : Type 0} (x : Option X) → is_some x ≡ true → (v : X) × (x ≡ Some v)
@@ -42,20 +44,43 @@ decides_fits c i = (by (leb (length c.stack) 8) refl, λ k. ap (runs i) (kinds_w
         record { room = few; after = after.0; runs = after.1 }
     by false deep h = absurd (false≢true (sym (ap (runs i) (kinds_past c.stack (leb-false (length c.stack) 8 deep))) ∙ h))
 
-pub decides_stores : (o : Order) (levels : List ℕ) (c : Claimed) (i : Instruction) → IsTrue (stores_upward o levels c i) ↔ StoresUpward o levels c i
-decides_stores o levels c (Load w) = (λ _ v e. cc, λ _. refl)
-decides_stores o levels c (Store w) = (λ h v e. let same : w ≡ v = cc in ap (λ u. o.at_most (joined_one o c) (get_or levels u 0)) (sym same) ∙ h, λ k. k w refl)
-decides_stores o levels c (Push x) = (λ _ v e. cc, λ _. refl)
-decides_stores o levels c Add = (λ _ v e. cc, λ _. refl)
-decides_stores o levels c Sub = (λ _ v e. cc, λ _. refl)
-decides_stores o levels c Eq = (λ _ v e. cc, λ _. refl)
-decides_stores o levels c Less = (λ _ v e. cc, λ _. refl)
-decides_stores o levels c Not = (λ _ v e. cc, λ _. refl)
-decides_stores o levels c (Goto m) = (λ _ v e. cc, λ _. refl)
-decides_stores o levels c (GotoF m j) = (λ _ v e. cc, λ _. refl)
-decides_stores o levels c Copy = (λ _ v e. cc, λ _. refl)
-decides_stores o levels c Swap = (λ _ v e. cc, λ _. refl)
-decides_stores o levels c Drop = (λ _ v e. cc, λ _. refl)
+-- a test that passes names nothing, and one that fails names its own
+passes : {X : Type 0} (b : Bool) (x : X) → cond b None (Some x) ≡ None → b ≡ true
+passes true x h = refl
+passes false x h = cc
+
+goes_on : {X : Type 0} (b : Bool) (x : X) (r : Option X) → cond (not b) (Some x) r ≡ None → (b ≡ true) × (r ≡ None)
+goes_on true x r h = (refl, h)
+goes_on false x r h = cc
+
+fails : {X : Type 0} (b : Bool) (x y : X) → cond b None (Some x) ≡ Some y → (x ≡ y) × (b ≡ false)
+fails true x y h = cc
+fails false x y h = (cc, refl)
+
+pub stored_upward : (o : Order) (levels : List ℕ) (c : Claimed) (i : Instruction) → lowered_variable o levels c i ≡ None → StoresUpward o levels c i
+stored_upward o levels c (Store w) h v e =
+    let same : w ≡ v = cc in
+    ap (λ u. o.at_most (joined_one o c) (get_or levels u 0)) (sym same) ∙ passes (o.at_most (joined_one o c) (get_or levels w 0)) w h
+stored_upward o levels c _ h v e = cc
+
+pub lowers : (o : Order) (levels : List ℕ) (c : Claimed) (i : Instruction) (v : ℕ) → lowered_variable o levels c i ≡ Some v →
+    (i ≡ Store v) × (StoresUpward o levels c i → ⊥)
+lowers o levels c (Store w) v h =
+    let k = fails (o.at_most (joined_one o c) (get_or levels w 0)) w v h in
+    (ap Store k.0, λ up. false≢true (sym k.1 ∙ up w refl))
+lowers o levels c _ v h = cc
+
+pub not_lowered : (o : Order) (levels : List ℕ) (c : Claimed) (i : Instruction) → StoresUpward o levels c i → lowered_variable o levels c i ≡ None
+not_lowered o levels c (Store w) k = ap (λ b. cond b None (Some w)) (k w refl)
+not_lowered o levels c _ k = refl
+
+pub is_lowered : (o : Order) (levels : List ℕ) (c : Claimed) (i : Instruction) (v : ℕ) → i ≡ Store v → (StoresUpward o levels c i → ⊥) →
+    lowered_variable o levels c i ≡ Some v
+is_lowered o levels c i v e k = by (lowered_variable o levels c i) refl
+  where
+    by : (found : Option ℕ) → lowered_variable o levels c i ≡ found → lowered_variable o levels c i ≡ Some v
+    by None h = absurd (k (stored_upward o levels c i h))
+    by (Some w) h = let stored : i ≡ Store w = (lowers o levels c i w h).0 in let same : w ≡ v = cc in h ∙ ap Some same
 
 under : (o : Order) (ps qs : List Place) → all_fit_under o ps qs ≡ true → Under o ps qs
 under o [] [] h = none
@@ -79,6 +104,49 @@ claim_taken : (o : Order) (stack : List Place) (oc : Option Claimed) → claim_t
 claim_taken o stack None h = absurd (false≢true h)
 claim_taken o stack (Some c) h = (c, refl, under o stack c.stack h)
 
+-- the first of a list at which a test fails is the first of which what it decides is not so
+module _ (test : ℕ → Bool) (P : ℕ → Type 0) (decides : (n : ℕ) → IsTrue (test n) ↔ P n) where
+  abbrev failing : List ℕ → Option ℕ
+  failing = find (λ n. not (test n))
+
+  one_more : (x : ℕ) (xs : List ℕ) → test x ≡ true → ((n : ℕ) → Contains xs n → P n) → (n : ℕ) → Contains (x ∷ xs) n → P n
+  one_more x xs t k n a =
+      ⊎_elim (λ (e : n ≡ x). subst P (sym e) ((decides x).0 t)) (λ (b : Contains xs n). k n b) (contains_cases x xs n a)
+
+  none_fails : (xs : List ℕ) → failing xs ≡ None → (n : ℕ) → Contains xs n → P n
+  none_fails [] h n a = absurd (contains_none n a)
+  none_fails (x ∷ xs) h n a = let p = goes_on (test x) x (failing xs) h in one_more x xs p.0 (none_fails xs p.1) n a
+
+  all_hold : (xs : List ℕ) → ((n : ℕ) → Contains xs n → P n) → failing xs ≡ None
+  all_hold [] k = refl
+  all_hold (x ∷ xs) k =
+      ap (λ b. cond (not b) (Some x) (failing xs)) ((decides x).1 (k x (contains_first x xs))) ∙ all_hold xs (λ n a. k n (contains_rest x xs n a))
+
+  first_fails : (xs : List ℕ) (n : ℕ) → failing xs ≡ Some n → FirstRefusing P xs n
+  first_fails [] n h = cc
+  first_fails (x ∷ xs) n h = by (test x) refl h (first_fails xs n)
+    where
+      by : (b : Bool) → test x ≡ b → cond (not b) (Some x) (failing xs) ≡ Some n → (failing xs ≡ Some n → FirstRefusing P xs n) →
+          FirstRefusing P (x ∷ xs) n
+      by true t h later =
+          let k = later h in
+          record { earlier = x ∷ k.earlier; later = k.later; among = ap (λ r. x ∷ r) k.among; taken = one_more x k.earlier t k.taken; refuses = k.refuses }
+      by false t h later =
+          let same : x ≡ n = cc in
+          record {
+            earlier = [];
+            later = xs;
+            among = ap (λ y. y ∷ xs) same;
+            taken = λ y a. absurd (contains_none y a);
+            refuses = λ k. false≢true (sym t ∙ (decides x).1 (subst P (sym same) k));
+          }
+
+  is_first : (xs : List ℕ) (n : ℕ) → FirstRefusing P xs n → failing xs ≡ Some n
+  is_first xs n k =
+      ap failing k.among ∙ find-append (λ y. not (test y)) k.earlier (n ∷ k.later)
+      ∙ ap (λ r. option_or r (failing (n ∷ k.later))) (all_hold k.earlier k.taken)
+      ∙ ap (λ b. cond (not b) (Some n) (failing k.later)) (false_from_ne_true (test n) (λ t. k.refuses ((decides n).0 t)))
+
 module _ (o : Order) (job : ProgramWithClaims) (stack : List Place) where
   taken : (label : ℕ) → takes o job stack label ≡ true → Takes o job stack label
   taken label h =
@@ -98,23 +166,27 @@ module _ (o : Order) (job : ProgramWithClaims) (stack : List Place) where
       cond-false (eqb label (exit job)) (is_empty stack) (claim_takes o stack (job.claim label)) (ne_eqb label (exit job) ne) ∙ ap (claim_takes o stack) has
       ∙ under_fits o u
 
-  all_taken : (labels : List ℕ) → list_all (takes o job stack) labels ≡ true → (next : ℕ) → Contains labels next → Takes o job stack next
-  all_taken [] h next a = absurd (contains_none next a)
-  all_taken (x ∷ labels) h next a =
-      let p = and_parts (takes o job stack x) (list_all (takes o job stack) labels) h in
-      ⊎_elim (λ (e : next ≡ x). subst (Takes o job stack) (sym e) (taken x p.0)) (λ (b : Contains labels next). all_taken labels p.1 next b)
-      (contains_cases x labels next a)
+  decides_takes : (label : ℕ) → IsTrue (takes o job stack label) ↔ Takes o job stack label
+  decides_takes label = (taken label, takes_it label)
 
-  all_take_it : (labels : List ℕ) → ((next : ℕ) → Contains labels next → Takes o job stack next) → list_all (takes o job stack) labels ≡ true
-  all_take_it [] k = refl
-  all_take_it (x ∷ labels) k =
-      and_from (takes o job stack x) (list_all (takes o job stack) labels) (takes_it x (k x (contains_first x labels)))
-      (all_take_it labels (λ n a. k n (contains_rest x labels n a)))
+module _ (o : Order) (levels : List ℕ) (job : ProgramWithClaims) (label : ℕ) (c : Claimed) (i : Instruction) where
+  pub all_take : first_refusing o levels job label c i ≡ None → SuccessorsTake o levels job label c i
+  all_take =
+      none_fails (takes o job (leaves o levels c i)) (Takes o job (leaves o levels c i)) (decides_takes o job (leaves o levels c i)) (successors i label)
 
-pub decides_successors : (o : Order) (levels : List ℕ) (job : ProgramWithClaims) (label : ℕ) (c : Claimed) (i : Instruction) →
-    IsTrue (successors_take o levels job label c i) ↔ SuccessorsTake o levels job label c i
-decides_successors o levels job label c i =
-    (all_taken o job (leaves o levels c i) (successors i label), all_take_it o job (leaves o levels c i) (successors i label))
+  pub first_refuses : (next : ℕ) → first_refusing o levels job label c i ≡ Some next →
+      FirstRefusing (Takes o job (leaves o levels c i)) (successors i label) next
+  first_refuses =
+      first_fails (takes o job (leaves o levels c i)) (Takes o job (leaves o levels c i)) (decides_takes o job (leaves o levels c i)) (successors i label)
+
+  pub none_refuses : SuccessorsTake o levels job label c i → first_refusing o levels job label c i ≡ None
+  none_refuses =
+      all_hold (takes o job (leaves o levels c i)) (Takes o job (leaves o levels c i)) (decides_takes o job (leaves o levels c i)) (successors i label)
+
+  pub is_refused : (next : ℕ) → FirstRefusing (Takes o job (leaves o levels c i)) (successors i label) next →
+      first_refusing o levels job label c i ≡ Some next
+  is_refused =
+      is_first (takes o job (leaves o levels c i)) (Takes o job (leaves o levels c i)) (decides_takes o job (leaves o levels c i)) (successors i label)
 
 surrounded : (o : Order) (job : ProgramWithClaims) (g label : ℕ) → claim_at_least o g (job.claim label) ≡ true → Surrounded o job g label
 surrounded o job g label h = by (job.claim label) refl h
@@ -125,6 +197,17 @@ surrounded o job g label h = by (job.claim label) refl h
 
 surrounds : (o : Order) (job : ProgramWithClaims) (g label : ℕ) → Surrounded o job g label → claim_at_least o g (job.claim label) ≡ true
 surrounds o job g label k = ap (claim_at_least o g) k.has ∙ k.at_least
+
+-- where nothing is found first there is nothing, and else something is found
+none_before : (f : ℕ → Option ℕ) (n : ℕ) → first_below f n ≡ None → (l : ℕ) → l < n → f l ≡ None
+none_before f n h = ⊎_elim (λ (k : Clear f n). k.all) (λ (k : Found f n). absurd (let is = k.is in cc)) (search_first f n)
+
+first_at : (f : ℕ → Option ℕ) (n x : ℕ) → first_below f n ≡ Some x → Found f n
+first_at f n x h = ⊎_elim (λ (k : Clear f n). absurd (let is = k.is in cc)) (λ (k : Found f n). k) (search_first f n)
+
+not_or_false : (a b : Bool) → (not a || b) ≡ false → a ≡ true
+not_or_false true b h = refl
+not_or_false false b h = cc
 
 module _ (o : Order) (job : ProgramWithClaims) (few : exit job ≤ 128) (label : ℕ) (c : Claimed) (m j : ℕ) where
   abbrev pub marks : List Bool
@@ -138,21 +221,57 @@ module _ (o : Order) (job : ProgramWithClaims) (few : exit job ≤ 128) (label :
       let same : j ≡ j' = cc in
       false≢true (sym h ∙ region_is_marked job.code j label few few (subst (λ q. Region job.code q label (exit job)) (sym same) r))
 
-  pub raised_all : marked_at_least o job (level_at c.stack 0) marks ≡ true → RegionRaised o job label c (GotoF m j)
-  raised_all h m' j' inside e r within =
-      let same : j ≡ j' = cc in
-      let marked : get_or marks inside false ≡ true =
-      region_is_marked job.code j label few (omega arith) (subst (λ q. Region job.code q label inside) (sym same) r) in
-      let clear = all_below_holds (is_surrounded_if_marked o job (level_at c.stack 0) marks) (exit job) h inside within in
-      surrounded o job (level_at c.stack 0) inside (sym (ap (λ b. not b || claim_at_least o (level_at c.stack 0) (job.claim inside)) marked) ∙ clear)
+  abbrev g : ℕ
+  g = level_at c.stack 0
 
-  pub all_raised : RegionRaised o job label c (GotoF m j) → marked_at_least o job (level_at c.stack 0) marks ≡ true
-  all_raised k =
-      all_below_from (is_surrounded_if_marked o job (level_at c.stack 0) marks) (exit job)
-      (λ inside within.
+  abbrev is_high : ℕ → Bool
+  is_high = is_surrounded_if_marked o job g marks
+
+  -- the test of a label decides whether it is surrounded if it is in the region
+  high_is_surrounded : (inside : ℕ) → inside < exit job → is_high inside ≡ true → Region job.code j label inside → Surrounded o job g inside
+  high_is_surrounded inside within h r =
+      surrounded o job g inside
+      (sym (ap (λ b. not b || claim_at_least o g (job.claim inside)) (region_is_marked job.code j label few (omega arith) r)) ∙ h)
+
+  surrounded_is_high : (inside : ℕ) → (Region job.code j label inside → Surrounded o job g inside) → is_high inside ≡ true
+  surrounded_is_high inside k =
       ⊎_elim
       (λ (h : get_or marks inside false ≡ true).
-      ap (λ b. not b || claim_at_least o (level_at c.stack 0) (job.claim inside)) h
-      ∙ surrounds o job (level_at c.stack 0) inside (k m j inside refl (marks_are_region job.code j label inside h) within))
-      (λ (h : get_or marks inside false ≡ false). ap (λ b. not b || claim_at_least o (level_at c.stack 0) (job.claim inside)) h)
-      (cases_Bool (get_or marks inside false)))
+      ap (λ b. not b || claim_at_least o g (job.claim inside)) h ∙ surrounds o job g inside (k (marks_are_region job.code j label inside h)))
+      (λ (h : get_or marks inside false ≡ false). ap (λ b. not b || claim_at_least o g (job.claim inside)) h)
+      (cases_Bool (get_or marks inside false))
+
+  abbrev low_at : ℕ → Option ℕ
+  low_at inside = cond (is_high inside) None (Some inside)
+
+  pub raised_all : too_low o job g marks ≡ None → RegionRaised o job label c (GotoF m j)
+  raised_all h m' j' inside e r within =
+      let same : j ≡ j' = cc in
+      high_is_surrounded inside within (passes (is_high inside) inside (none_before low_at (exit job) h inside within))
+      (subst (λ q. Region job.code q label inside) (sym same) r)
+
+  pub lowest_low : (inside : ℕ) → too_low o job g marks ≡ Some inside → LowestTooLow o job label c j inside
+  lowest_low inside h =
+      let k = first_at low_at (exit job) inside h in
+      let named : low_at k.label ≡ Some inside = k.some ∙ sym k.is ∙ h in
+      let failed = fails (is_high k.label) k.label inside named in
+      let marked = not_or_false (get_or marks k.label false) (claim_at_least o g (job.claim k.label)) failed.1 in
+      subst (LowestTooLow o job label c j) failed.0
+      (record {
+        held = marks_are_region job.code j label k.label marked;
+        within = k.within;
+        low = λ s. false≢true (sym failed.1 ∙ surrounded_is_high k.label (λ _. s));
+        lowest = λ other below. high_is_surrounded other (omega (arith, k.within)) (passes (is_high other) other (k.before other below));
+      })
+
+  pub all_raised : RegionRaised o job label c (GotoF m j) → too_low o job g marks ≡ None
+  all_raised k =
+      none_below low_at (exit job)
+      (λ inside within. ap (λ b. cond b None (Some inside)) (surrounded_is_high inside (λ r. k m j inside refl r within)))
+
+  pub is_low : (inside : ℕ) → LowestTooLow o job label c j inside → too_low o job g marks ≡ Some inside
+  is_low inside k =
+      first_found low_at inside (exit job) inside
+      (none_below low_at inside (λ l below. ap (λ b. cond b None (Some l)) (surrounded_is_high l (k.lowest l below))))
+      (ap (λ b. cond b None (Some inside)) (false_from_ne_true (is_high inside) (λ h. k.low (high_is_surrounded inside k.within h k.held))))
+      k.within

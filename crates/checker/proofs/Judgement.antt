@@ -1,445 +1,381 @@
--- The verdict accepts exactly the jobs that decode and are well claimed, and names the first broken rule of any other.
--- Assumes nothing.
-use Rattle.std.proofs.Common.{◌≡◌, ℕ, zero, suc, ◌+◌, ◌*◌, ◌<◌, ◌≤◌, Bool, true, false, cond, not, eqb, ◌≢◌, ◌⊎◌, List, [], ◌∷◌, length, get_or, Some, None, Ok, Err, Option, Result, sym, refl, ap, ◌∙◌, subst, ap₂, inl, inr, ⊎_elim, arith, length-append}
-use Rattle.std.specs.Option.{option_to_list}
-use Rattle.std.proofs.lemmas.Bool.{eq-eqb, ne_eqb, cases_Bool, cases_eq, cond-true, cond-false, false≢true}
+-- A job has no fault exactly if it decodes and is well claimed, and the first fault of any other is its first broken rule:
+-- each test judges, and so do the records, the rules and all of them in their order. Assumes nothing.
+use Rattle.std.proofs.Common.{◌≡◌, ℕ, zero, suc, ◌+◌, ◌*◌, ◌<◌, ◌≤◌, Bool, true, false, not, eqb, ◌⊎◌, List, [], ◌∷◌, length, get_or, Some, None, Ok, Err, Option, Result, sym, refl, ap, ◌∙◌, subst, subst₂, inl, inr, ⊎_elim, arith, length-append}
+use Rattle.std.specs.Prelude.{if◌then◌else◌}
+use Rattle.std.specs.Option.{option_or, option_map}
+use Rattle.std.specs.Result.{result_ok, result_err}
+use Rattle.std.proofs.lemmas.Bool.{eqb-true, eqb-false, ne_eqb, cases_Bool, false≢true, false_from_ne_true}
 use Rattle.std.proofs.lemmas.Bool.Decides.{nat_tests}
 use Rattle.lattice.specs.Order.{Order}
 use Rattle.push.specs.declared.instruction.Instruction.{Instruction}
-use Rattle.push.specs.declared.instruction.Instruction.TheVariants.{Load, Store, Push, Add, Sub, Eq, Less, Not, Goto, GotoF, Copy, Swap, Drop}
+use Rattle.push.specs.declared.instruction.Instruction.TheVariants.{GotoF}
 use Rattle.push.specs.Code.{fetch}
-use Rattle.job.specs.Layout.{Sizes, sized, opening, claim_record}
-use Rattle.job.specs.declared.fault.ReadFault.{ReadFault}
-use Rattle.job.specs.Records.{Claimed, like_a_claim}
-use Rattle.job.proofs.FaultFacts.{read_is_some}
+use Rattle.job.specs.declared.field.InstructionField.{InstructionField}
+use Rattle.job.specs.declared.field.ClaimField.{ClaimField}
+use Rattle.job.specs.declared.field.Field.{Field}
+use Rattle.job.specs.declared.field.Field.TheVariants.{Opening, Instructions, Places, Length, Instruction as of_instruction, Claim as of_claim}
+use Rattle.job.specs.declared.fault.RecordFault.{RecordFault}
+use Rattle.job.specs.Faults.{field_number}
+use Rattle.job.specs.Fields.{InstructionFields, instruction_offset, claim_offset, like_instruction, like_claim, FirstUnlike}
+use Rattle.job.specs.First.{first_below}
+use Rattle.job.specs.Layout.{Sizes, sized, opening, instruction_place, instruction_record, claim_place, claim_record}
+use Rattle.job.specs.Records.{Misread, Claimed, decoded, fields_in, instruction_misread, instruction_read, every_field_fits, claim_fault}
+use Rattle.job.proofs.FieldFacts.{claim_none, claim_some, claim_named, like_or_fault, decoded_some, decoded_named, misread_place, record_is_whole}
+use Rattle.checker.specs.declared.fault.Rule.{Rule}
+use Rattle.checker.specs.declared.fault.Rule.TheVariants.{Entry, Stack, Store as BrokenStore, Successor, RegionExit, RegionLevel}
+use Rattle.checker.specs.declared.fault.MountFault.{MountFault}
+use Rattle.checker.specs.declared.fault.MountFault.TheVariants.{Record, Claims}
+use Rattle.checker.specs.Faults.{Cause, nothing, instruction_field, claim_field, Answered, rule_number, fault_answer, answer_to, number_and_label}
 use Rattle.checker.specs.Leaving.{level_at}
-use Rattle.checker.specs.Rules.{ProgramWithClaims, exit, is_empty, fits_its_stack, stores_upward, successors_take, rule_at, where_claimed, label_rule}
+use Rattle.checker.specs.Rules.{ProgramWithClaims, exit, is_empty, fits_its_stack, lowered_variable, first_refusing, rule_at, where_claimed}
 use Rattle.checker.specs.Region.{region}
-use Rattle.checker.specs.Verdict.{marked_at_least, branch_at, branch_rule, empty_claim, entry_rule, first_below, first_of, instruction_at, unlike_instruction, instruction_rule, claim_rule, code_below, job_in, rules_verdict, records_verdict, sized_verdict, verdict}
-use Rattle.checker.specs.WellClaimed.{BeginsEmpty, LabelKept, BranchKept, WhereClaimed, Below, WellClaimed, Says, LikeAClaim, Decodes, Mountable, LabelBreaks, stack, store, successor, BranchBreaks, exit_inside, too_low, BreaksAt, FirstBroken, unopened, instruction, claim, entry, label_rule as at_label, branch_rule as at_branch, Judged}
-use Rattle.checker.proofs.Decided.{decides_fits, decides_stores, decides_successors, exit_unmarked, avoids, raised_all, all_raised, emptied}
+use Rattle.checker.specs.Verdict.{too_low as lowest_too_low, branch_at, empty_claim, entry_rule, decoded_at, instruction_fault, claim_record_fault, code_below, job_in, sized_fault, first_fault}
+use Rattle.checker.specs.WellClaimed.{BeginsEmpty, LabelKept, BranchKept, WhereClaimed, Below, LabelsKept, LowestTooLow, Says, LikeAClaim, Mountable, Decodes, LabelBreaks, stack, store, successor, BranchBreaks, exit_inside, too_low, BreaksAt, LabelBreaksAt, BranchBreaksAt, FirstBroken, unopened, instruction, claim, entry, label_rule as at_label, branch_rule as at_branch, Judged}
+use Rattle.checker.proofs.Decided.{decides_fits, stored_upward, lowers, not_lowered, is_lowered, all_take, first_refuses, none_refuses, is_refused, exit_unmarked, avoids, raised_all, lowest_low, all_raised, is_low, emptied}
+use Rattle.checker.proofs.Opened.{is_unopened, unopened_named}
+use Rattle.checker.proofs.Judges.{Breaks, Outcome, kept, broken, Judges, Named, was_kept, either, changed, reworded, finds_nothing, Either, or_judged, map_judged, At, at, from_at, First, first_judged}
 
--- The first label at which a rule breaks.
-record Found (rule : ℕ → ℕ) (n : ℕ) (v : ℕ × ℕ) : Type 0 where
-  label : ℕ
-  within : label < n
-  before : (l : ℕ) → l < label → rule l ≡ 0
-  some : rule label ≢ 0
-  is : v ≡ (rule label, label)
+abbrev of_record : RecordFault → Answered
+of_record fault = fault_answer (Record fault)
 
-record Clear (rule : ℕ → ℕ) (n : ℕ) (v : ℕ × ℕ) : Type 0 where
-  all : (l : ℕ) → l < n → rule l ≡ 0
-  is : v ≡ (0, 0)
-
-search_first : (rule : ℕ → ℕ) (n : ℕ) → Clear rule n (first_below rule n) ⊎ Found rule n (first_below rule n)
-unfolding first_below
-search_first rule zero = inl (record { all = λ l h. absurd (omega arith); is = refl })
-search_first rule (suc n) =
-    ⊎_elim
-    (λ (k : Clear rule n (first_below rule n)).
-    let zero_so_far : eqb (first_below rule n).0 0 ≡ true = eq-eqb (first_below rule n).0 0 (ap (λ v. v.0) k.is) in
-    ⊎_elim
-    (λ (e : rule n ≡ 0).
-    inl
-    (record {
-      all = λ l h. ⊎_elim (λ (q : l ≡ n). ap rule q ∙ e) (λ (ne : l ≡ n → ⊥). k.all l (omega (arith, ne))) (cases_eq l n);
-      is =
-          cond-true (eqb (first_below rule n).0 0) (cond (eqb (rule n) 0) (0, 0) (rule n, n)) (first_below rule n) zero_so_far
-          ∙ cond-true (eqb (rule n) 0) (0, 0) (rule n, n) (eq-eqb (rule n) 0 e);
-    }))
-    (λ (ne : rule n ≡ 0 → ⊥).
-    inr
-    (record {
-      label = n;
-      within = omega arith;
-      before = k.all;
-      some = ne;
-      is =
-          cond-true (eqb (first_below rule n).0 0) (cond (eqb (rule n) 0) (0, 0) (rule n, n)) (first_below rule n) zero_so_far
-          ∙ cond-false (eqb (rule n) 0) (0, 0) (rule n, n) (ne_eqb (rule n) 0 ne);
-    }))
-    (cases_eq (rule n) 0))
-    (λ (k : Found rule n (first_below rule n)).
-    let some_already : eqb (first_below rule n).0 0 ≡ false = ne_eqb (first_below rule n).0 0 (λ z. k.some (ap (λ v. v.0) (sym k.is) ∙ z)) in
-    inr
-    (record {
-      label = k.label;
-      within = omega (arith, k.within);
-      before = k.before;
-      some = k.some;
-      is = cond-false (eqb (first_below rule n).0 0) (cond (eqb (rule n) 0) (0, 0) (rule n, n)) (first_below rule n) some_already ∙ k.is;
-    }))
-    (search_first rule n)
-
--- A rule of labels that have a claim and an instruction.
-module _ (rule : Claimed → Instruction → ℕ) where
-  where_zero : (oc : Option Claimed) (oi : Option Instruction) → where_claimed rule oc oi ≡ 0 → (c : Claimed) (i : Instruction) → oc ≡ Some c → oi ≡ Some i →
-      rule c i ≡ 0
-  where_zero None oi h c i e f = cc
-  where_zero (Some d) None h c i e f = cc
-  where_zero (Some d) (Some k) h c i e f =
-      let p : d ≡ c = cc in
-      let q : k ≡ i = cc in
-      sym (ap₂ rule p q) ∙ h
-
-  where_some : (oc : Option Claimed) (oi : Option Instruction) → where_claimed rule oc oi ≢ 0 →
-      (c : Claimed) × (i : Instruction) × (oc ≡ Some c) × (oi ≡ Some i) × (where_claimed rule oc oi ≡ rule c i)
-  where_some None oi ne = absurd (ne refl)
-  where_some (Some d) None ne = absurd (ne refl)
-  where_some (Some d) (Some k) ne = (d, k, refl, refl, refl)
-
-no_ten : {A : Type 0} (n : ℕ) → suc n ≡ 0 → A
-no_ten n e = absurd (omega arith)
+abbrev of_rule : Rule → Answered
+of_rule rule = fault_answer (Claims rule)
 
 -- The three tests of a label in their order.
 module _ (o : Order) (levels : List ℕ) (job : ProgramWithClaims) (label : ℕ) (c : Claimed) (i : Instruction) where
-  b1 : Bool
-  b1 = fits_its_stack c i
+  label_outcome : (b : Bool) (v w : Option ℕ) → fits_its_stack c i ≡ b → lowered_variable o levels c i ≡ v → first_refusing o levels job label c i ≡ w →
+      Outcome of_rule (LabelKept o levels job label c i) (At label (LabelBreaks o levels job label c i))
+      (if not b then Some (Stack label) else option_or (option_map (BrokenStore label) v) (option_map (Successor label) w))
+  label_outcome false v w p q r = broken (at (stack (λ k. false≢true (sym p ∙ (decides_fits c i).1 k))))
+  label_outcome true (Some v) w p q r = let low = lowers o levels c i v q in broken (at (store ((decides_fits c i).0 p) low.0 low.1))
+  label_outcome true None (Some next) p q r =
+      broken (at (successor ((decides_fits c i).0 p) (stored_upward o levels c i q) (first_refuses o levels job label c i next r)))
+  label_outcome true None None p q r =
+      kept (record { fits = (decides_fits c i).0 p; stores = stored_upward o levels c i q; taken = all_take o levels job label c i r })
 
-  b2 : Bool
-  b2 = stores_upward o levels c i
+  label_named : Named of_rule (rule_at o levels job label c i) (At label (LabelBreaks o levels job label c i))
+  label_named _ _ _ (at (stack f)) = (Stack label, rw (false_from_ne_true (fits_its_stack c i) (λ h. f ((decides_fits c i).0 h))), refl)
+  label_named _ _ _ (at (store {v = v} fits is f)) = (BrokenStore label v, rw ((decides_fits c i).1 fits, is_lowered o levels c i v is f), refl)
+  label_named _ _ _ (at (successor {next = next} fits up first)) =
+      (Successor label next, rw ((decides_fits c i).1 fits, not_lowered o levels c i up, is_refused o levels job label c i next first), refl)
 
-  b3 : Bool
-  b3 = successors_take o levels job label c i
-
-  chosen : (x y z : Bool) → b1 ≡ x → b2 ≡ y → b3 ≡ z → rule_at o levels job label c i ≡ cond (not x) 11 (cond (not y) 12 (cond (not z) 13 0))
-  unfolding b1 b2 b3
-  chosen x y z p q r =
-      ap (λ b. cond (not b) 11 (cond (not b2) 12 (cond (not b3) 13 0))) p
-      ∙ ap (λ b. cond (not x) 11 (cond (not b) 12 (cond (not b3) 13 0))) q
-      ∙ ap (λ b. cond (not x) 11 (cond (not y) 12 (cond (not b) 13 0))) r
-
-  -- the label keeps the rules, or breaks the one whose number it has
-  pub label_judged : (LabelKept o levels job label c i × (rule_at o levels job label c i ≡ 0)) ⊎
-      (LabelBreaks o levels job label c i (rule_at o levels job label c i) × (rule_at o levels job label c i ≢ 0))
-  unfolding b1 b2 b3
+  label_judged : Judges of_rule (rule_at o levels job label c i) (LabelKept o levels job label c i) (At label (LabelBreaks o levels job label c i))
   label_judged =
-      let d1 = decides_fits c i in
-      let d2 = decides_stores o levels c i in
-      let d3 = decides_successors o levels job label c i in
-      ⊎_elim
-      (λ (p : b1 ≡ true).
-      ⊎_elim
-      (λ (q : b2 ≡ true).
-      ⊎_elim (λ (r : b3 ≡ true). inl (record { fits = d1.0 p; stores = d2.0 q; taken = d3.0 r }, chosen true true true p q r))
-      (λ (r : b3 ≡ false).
-      let e = chosen true true false p q r in
-      inr (subst (LabelBreaks o levels job label c i) (sym e) (successor (d1.0 p) (d2.0 q) (λ k. false≢true (sym r ∙ d3.1 k))), λ z. no_ten 12 (sym e ∙ z)))
-      (cases_Bool b3))
-      (λ (q : b2 ≡ false).
-      let e = chosen true false b3 p q refl in
-      inr (subst (LabelBreaks o levels job label c i) (sym e) (store (d1.0 p) (λ k. false≢true (sym q ∙ d2.1 k))), λ z. no_ten 11 (sym e ∙ z)))
-      (cases_Bool b2))
-      (λ (p : b1 ≡ false).
-      let e = chosen false b2 b3 p refl refl in
-      inr (subst (LabelBreaks o levels job label c i) (sym e) (stack (λ k. false≢true (sym p ∙ d1.1 k))), λ z. no_ten 10 (sym e ∙ z)))
-      (cases_Bool b1)
+      record {
+        outcome = label_outcome _ _ _ refl refl refl;
+        none = λ k. rw ((decides_fits c i).1 k.fits, not_lowered o levels c i k.stores, none_refuses o levels job label c i k.taken);
+        some = label_named;
+      }
 
--- An instruction that is no branch has no region to keep.
-abbrev BranchJudged : Order → ProgramWithClaims → ℕ → Claimed → Instruction → Type 0
-BranchJudged o job label c i =
-    (BranchKept o job label c i × (branch_at o job label c i ≡ 0)) ⊎
-    (BranchBreaks o job label c i (branch_at o job label c i) × (branch_at o job label c i ≢ 0))
+-- The two tests of a branch. Another instruction has no region to keep.
+module _ (o : Order) (job : ProgramWithClaims) (few : exit job ≤ 128) (label : ℕ) (c : Claimed) where
+  abbrev branch_breaks : Instruction → Breaks
+  branch_breaks i = At label (BranchBreaks o job label c i)
 
-module _ (o : Order) (job : ProgramWithClaims) (label : ℕ) (c : Claimed) where
-  no_branch : (i : Instruction) → ((m j : ℕ) → i ≡ GotoF m j → ⊥) → BranchKept o job label c i
-  no_branch i h = record { avoids = λ m j e r. h m j e; raised = λ m j inside e r w. absurd (h m j e) }
+  keeps : (i : Instruction) → ((m j : ℕ) → i ≡ GotoF m j → ⊥) → BranchKept o job label c i
+  keeps i h = record { avoids = λ m j e r. h m j e; raised = λ m j inside e r w. absurd (h m j e) }
 
-  pub branch_judged : (few : exit job ≤ 128) (i : Instruction) → BranchJudged o job label c i
-  branch_judged few (Load v) = inl (no_branch (Load v) (λ m j e. cc), refl)
-  branch_judged few (Store v) = inl (no_branch (Store v) (λ m j e. cc), refl)
-  branch_judged few (Push x) = inl (no_branch (Push x) (λ m j e. cc), refl)
-  branch_judged few Add = inl (no_branch Add (λ m j e. cc), refl)
-  branch_judged few Sub = inl (no_branch Sub (λ m j e. cc), refl)
-  branch_judged few Eq = inl (no_branch Eq (λ m j e. cc), refl)
-  branch_judged few Less = inl (no_branch Less (λ m j e. cc), refl)
-  branch_judged few Not = inl (no_branch Not (λ m j e. cc), refl)
-  branch_judged few (Goto t) = inl (no_branch (Goto t) (λ m j e. cc), refl)
-  branch_judged few Copy = inl (no_branch Copy (λ m j e. cc), refl)
-  branch_judged few Swap = inl (no_branch Swap (λ m j e. cc), refl)
-  branch_judged few Drop = inl (no_branch Drop (λ m j e. cc), refl)
-  branch_judged few (GotoF t j) =
-      let table = region job.code j label in
-      let in_exit = get_or table (exit job) false in
-      let high = marked_at_least o job (level_at c.stack 0) table in
-      ⊎_elim
-      (λ (p : in_exit ≡ true).
-      let e : branch_at o job label c (GotoF t j) ≡ 14 = cond-true in_exit 14 (cond (not high) 15 0) p in
-      inr (
-        subst (BranchBreaks o job label c (GotoF t j)) (sym e)
-            (exit_inside (λ k. false≢true (sym (exit_unmarked o job few label c t j k) ∙ p))),
-        λ z. no_ten 13 (sym e ∙ z),
-      ))
-      (λ (p : in_exit ≡ false).
-      let off = avoids o job few label c t j p in
-      ⊎_elim
-      (λ (q : high ≡ true). inl (
-        record {
-          avoids = off;
-          raised = raised_all o job few label c t j q;
-        },
-        cond-false in_exit 14 (cond (not high) 15 0) p ∙ cond-false (not high) 15 0 (ap not q),
-      ))
-      (λ (q : high ≡ false).
-      let e : branch_at o job label c (GotoF t j) ≡ 15 = cond-false in_exit 14 (cond (not high) 15 0) p ∙ cond-true (not high) 15 0 (ap not q) in
-      inr (
-        subst (BranchBreaks o job label c (GotoF t j)) (sym e)
-            (too_low off (λ k. false≢true (sym q ∙ all_raised o job few label c t j k))),
-        λ z. no_ten 14 (sym e ∙ z),
-      ))
-      (cases_Bool high))
-      (cases_Bool in_exit)
+  cannot_break : (i : Instruction) → ((m j : ℕ) → i ≡ GotoF m j → ⊥) → (a m : ℕ) (k : Cause) → branch_breaks i a m k → ⊥
+  cannot_break i h _ _ _ (at (exit_inside f)) = f (keeps i h).avoids
+  cannot_break i h _ _ _ (at (too_low {m = m} {j = j} k e low)) = h m j e
+
+  branch_judged : (i : Instruction) → Judges of_rule (branch_at o job label c i) (BranchKept o job label c i) (branch_breaks i)
+  branch_judged (GotoF t j) =
+      record {
+        outcome = outcome _ _ refl refl;
+        none = λ k. rw (exit_unmarked o job few label c t j k.avoids, all_raised o job few label c t j k.raised);
+        some = named;
+      }
+    where
+      outcome : (b : Bool) (v : Option ℕ) → get_or (region job.code j label) (exit job) false ≡ b →
+          lowest_too_low o job (level_at c.stack 0) (region job.code j label) ≡ v →
+          Outcome of_rule (BranchKept o job label c (GotoF t j)) (branch_breaks (GotoF t j))
+          (if b then Some (RegionExit label (exit job)) else option_map (RegionLevel label) v)
+      outcome true v p q = broken (at (exit_inside (λ k. false≢true (sym (exit_unmarked o job few label c t j k) ∙ p))))
+      outcome false (Some inside) p q =
+          broken (at (too_low {m = t} {j = j} (avoids o job few label c t j p) refl (lowest_low o job few label c t j inside q)))
+      outcome false None p q = kept (record { avoids = avoids o job few label c t j p; raised = raised_all o job few label c t j q })
+
+      named : Named of_rule (branch_at o job label c (GotoF t j)) (branch_breaks (GotoF t j))
+      named _ _ _ (at (exit_inside f)) = (
+        RegionExit label (exit job),
+        ⊎_elim (λ h. rw h) (λ h. absurd (f (avoids o job few label c t j h))) (cases_Bool (get_or (region job.code j label) (exit job) false)),
+        refl,
+      )
+      named _ _ _ (at (too_low {m = u} {j = v} {inside = inside} off is low)) =
+          let same : v ≡ j = cc in
+          let lowest = subst (λ z. LowestTooLow o job label c z inside) same low in
+          (RegionLevel label inside, rw (exit_unmarked o job few label c t j off, is_low o job few label c t j inside lowest), refl)
+  branch_judged i = finds_nothing (keeps i (λ m j e. cc)) (cannot_break i (λ m j e. cc))
 
 -- The entry of a job.
+data NoEntry (job : ProgramWithClaims) : ℕ → ℕ → Cause → Type 0 where
+  no_entry : (BeginsEmpty job → ⊥) → NoEntry job 10 0 nothing
+
 empty_claimed : (oc : Option Claimed) → empty_claim oc ≡ true → (c : Claimed) × (oc ≡ Some c) × (c.stack ≡ [])
 empty_claimed None h = absurd (false≢true h)
 empty_claimed (Some c) h = (c, refl, emptied c.stack h)
 
-claimed_empty : (oc : Option Claimed) (c : Claimed) → oc ≡ Some c → c.stack ≡ [] → empty_claim oc ≡ true
-claimed_empty oc c e f = ap empty_claim e ∙ ap is_empty f
+claimed_empty : (oc : Option Claimed) → (c : Claimed) × (oc ≡ Some c) × (c.stack ≡ []) → empty_claim oc ≡ true
+claimed_empty oc k = ap empty_claim k.1 ∙ ap is_empty k.2
 
-pub entry_judged : (job : ProgramWithClaims) → (BeginsEmpty job × (entry_rule job ≡ 0)) ⊎ ((BeginsEmpty job → ⊥) × (entry_rule job ≡ 10))
-entry_judged job =
-    ⊎_elim (λ (e : exit job ≡ 0). inl (inl e, cond-true (eqb (exit job) 0) 0 (cond (empty_claim (job.claim 0)) 0 10) (eq-eqb (exit job) 0 e)))
-    (λ (ne : exit job ≡ 0 → ⊥).
-    let past = cond-false (eqb (exit job) 0) 0 (cond (empty_claim (job.claim 0)) 0 10) (ne_eqb (exit job) 0 ne) in
-    ⊎_elim (λ (h : empty_claim (job.claim 0) ≡ true). inl (inr (empty_claimed (job.claim 0) h), past ∙ cond-true (empty_claim (job.claim 0)) 0 10 h))
-    (λ (h : empty_claim (job.claim 0) ≡ false).
-    inr (⊎_elim ne (λ k. false≢true (sym h ∙ claimed_empty (job.claim 0) k.0 k.1 k.2)), past ∙ cond-false (empty_claim (job.claim 0)) 0 10 h))
-    (cases_Bool (empty_claim (job.claim 0))))
-    (cases_eq (exit job) 0)
+module _ (job : ProgramWithClaims) where
+  entry_outcome : (b v : Bool) → eqb (exit job) 0 ≡ b → empty_claim (job.claim 0) ≡ v →
+      Outcome of_rule (BeginsEmpty job) (NoEntry job) (if b then None else if v then None else Some Entry)
+  entry_outcome true v p q = kept (inl (eqb-true (exit job) 0 p))
+  entry_outcome false true p q = kept (inr (empty_claimed (job.claim 0) q))
+  entry_outcome false false p q =
+      broken (no_entry (⊎_elim (eqb-false (exit job) 0 p) (λ k. false≢true (sym q ∙ claimed_empty (job.claim 0) k))))
 
--- The records of a job.
-pub says : (bytes : List ℕ) (s : Sizes) (label : ℕ) → instruction_rule bytes s label ≡ 0 → Says bytes s label
-says bytes s label h = by (instruction_at bytes s label) refl h
-  where
-    by : (oi : Option Instruction) → instruction_at bytes s label ≡ oi → unlike_instruction oi ≡ 0 → Says bytes s label
-    by None e h = no_ten 7 h
-    by (Some i) e h = record { instruction = i; read = e }
+  entry_named : Named of_rule (entry_rule job) (NoEntry job)
+  entry_named _ _ _ (no_entry f) = (
+    Entry,
+    rw (
+      ne_eqb (exit job) 0 (λ e. f (inl e)),
+      false_from_ne_true (empty_claim (job.claim 0)) (λ h. f (inr (empty_claimed (job.claim 0) h))),
+    ),
+    refl,
+  )
 
-pub says_not : (bytes : List ℕ) (s : Sizes) (label : ℕ) → instruction_rule bytes s label ≢ 0 → (Says bytes s label → ⊥) × (instruction_rule bytes s label ≡ 8)
-says_not bytes s label ne = by (instruction_at bytes s label) refl
-  where
-    by : (oi : Option Instruction) → instruction_at bytes s label ≡ oi → (Says bytes s label → ⊥) × (instruction_rule bytes s label ≡ 8)
-    by None e = (λ k. cc, ap unlike_instruction e)
-    by (Some i) e = absurd (ne (ap unlike_instruction e))
+  entry_judged : Judges of_rule (entry_rule job) (BeginsEmpty job) (NoEntry job)
+  entry_judged =
+      record {
+        outcome = entry_outcome _ _ refl refl;
+        none = ⊎_elim (λ e. grind (arith, nat_tests)) (λ k. let h = claimed_empty (job.claim 0) k in grind (arith, nat_tests));
+        some = entry_named;
+      }
 
-pub like : (o : Order) (bytes : List ℕ) (s : Sizes) (label : ℕ) → claim_rule o bytes s label ≡ 0 → LikeAClaim o bytes s label
-like o bytes s label h =
-    let b = like_a_claim o.span s.places (claim_record bytes s label) in
-    ⊎_elim (λ (t : b ≡ true). t) (λ (f : b ≡ false). no_ten 8 (sym (cond-false b 0 9 f) ∙ h)) (cases_Bool b)
+-- A rule of the labels that have a claim and an instruction.
+module _ (job : ProgramWithClaims) {K : ℕ → Claimed → Instruction → Type 0} {B : ℕ → Claimed → Instruction → ℕ → Cause → Type 0}
+    (rule : ℕ → Claimed → Instruction → Option Rule)
+    (each : (l : ℕ) (c : Claimed) (i : Instruction) → Judges of_rule (rule l c i) (K l c i) (At l (B l c i))) where
+  abbrev Where : ℕ → Option Claimed → Option Instruction → ℕ → Cause → Type 0
+  Where l oc oi a k = (c : Claimed) × (i : Instruction) × (oc ≡ Some c) × (oi ≡ Some i) × B l c i a k
 
-pub like_not : (o : Order) (bytes : List ℕ) (s : Sizes) (label : ℕ) → claim_rule o bytes s label ≢ 0 →
-    (LikeAClaim o bytes s label → ⊥) × (claim_rule o bytes s label ≡ 9)
-like_not o bytes s label ne =
-    let b = like_a_claim o.span s.places (claim_record bytes s label) in
-    ⊎_elim (λ (t : b ≡ true). absurd (ne (cond-true b 0 9 t))) (λ (f : b ≡ false). (λ t. false≢true (sym f ∙ t), cond-false b 0 9 f)) (cases_Bool b)
+  where_judged : (l : ℕ) (oc : Option Claimed) (oi : Option Instruction) →
+      Judges of_rule (where_claimed (rule l) oc oi) ((c : Claimed) (i : Instruction) → oc ≡ Some c → oi ≡ Some i → K l c i) (At l (Where l oc oi))
+  where_judged l None oi = finds_nothing (λ c i e f. cc) (from_at (λ _ _ _. ⊥) (λ a k b. let e = b.2 in cc))
+  where_judged l (Some c) None = finds_nothing (λ d i e f. cc) (from_at (λ _ _ _. ⊥) (λ a k b. let e = b.3 in cc))
+  where_judged l (Some c) (Some i) =
+      reworded (each l c i) (λ h d j e f. let p : c ≡ d = cc in let q : i ≡ j = cc in subst₂ (K l) p q h) (λ h. h c i refl refl)
+      (from_at (At l (Where l (Some c) (Some i))) (λ a k b. at (c, i, refl, refl, b)))
+      (from_at (At l (B l c i))
+      (λ a k b. let e = b.2 in let f = b.3 in let p : b.0 ≡ c = cc in let q : b.1 ≡ i = cc in at (subst₂ (λ d j. B l d j a k) p q b.4)))
+
+  rules_judged : Judges of_rule (first_below (λ l. where_claimed (rule l) (job.claim l) (fetch job.code l)) (exit job))
+      (Below (exit job) (WhereClaimed job K)) (BreaksAt job K B)
+  rules_judged =
+      reworded
+      (first_judged (λ l. where_claimed (rule l) (job.claim l) (fetch job.code l)) (exit job) (λ l w. where_judged l (job.claim l) (fetch job.code l)))
+      (λ h. h) (λ h. h)
+      (λ a m k b. record {
+        within = b.within;
+        before = b.before;
+        claimed = b.here.0;
+        instruction = b.here.1;
+        has = b.here.2;
+        fetched = b.here.3;
+        broken = b.here.4;
+      })
+      (λ a m k b. record { within = b.within; before = b.before; here = (b.claimed, b.instruction, b.has, b.fetched, b.broken) })
+
+-- The records of a job: the first field of one that is unlike its description.
+data Unread (bytes : List ℕ) (s : Sizes) (label : ℕ) : ℕ → Cause → Type 0 where
+  unread : {r : InstructionFields} {field : InstructionField} → fields_in (instruction_record bytes label) ≡ Some r →
+      FirstUnlike instruction_offset (like_instruction s.instructions r) field →
+      Unread bytes s label 8 (instruction_field field (instruction_place label + instruction_offset field))
+
+read_has_no_fault : {T E : Type 0} (d : Result T E) (x : T) → result_ok d ≡ Some x → result_err d ≡ None
+read_has_no_fault d x e = grind arith
+
+module _ (bytes : List ℕ) (s : Sizes) (label : ℕ) where
+  abbrev place : ℕ
+  place = instruction_place label
+
+  instruction_outcome : (r : InstructionFields) (d : Result Instruction Misread) → fields_in (instruction_record bytes label) ≡ Some r →
+      decoded s.instructions place r ≡ d → Outcome of_record (Says bytes s label) (At label (Unread bytes s label)) (result_err (instruction_read label d))
+  instruction_outcome r (Ok i) e h = kept (record { instruction = i; read = rw (e, h) })
+  instruction_outcome r (Err m) e h = let b = decoded_some s.instructions place r m h in broken (rw b.1 (at (unread e b.0)))
+
+  instruction_named : Named of_record (instruction_fault bytes s label) (At label (Unread bytes s label))
+  instruction_named _ _ _ (at (unread {r = r} {field = field} e f)) = (
+    record { field = of_instruction label field; fault = instruction_misread s.instructions place r field },
+    rw (e, decoded_named s.instructions place r field f),
+    ap (λ p. (8, label, instruction_field field p)) (misread_place s.instructions place r field),
+  )
+
+  instruction_judged : opening bytes ≡ Ok s → label < s.instructions →
+      Judges of_record (instruction_fault bytes s label) (Says bytes s label) (At label (Unread bytes s label))
+  instruction_judged opened within =
+      let whole = record_is_whole bytes s label opened within in
+      record {
+        outcome = rw whole.1 (instruction_outcome whole.0 _ whole.1 refl);
+        none = λ k. read_has_no_fault (decoded_at bytes s label) k.instruction k.read;
+        some = instruction_named;
+      }
+
+-- And of a claim record, which stands at a place.
+data Unclaimed (span places label place : ℕ) (bytes : List ℕ) : ℕ → Cause → Type 0 where
+  unclaimed : {field : ClaimField} → claim_offset field < 4 + 3 * places → FirstUnlike claim_offset (like_claim span places bytes) field →
+      Unclaimed span places label place bytes 9 (claim_field field (place + claim_offset field))
+
+module _ (span places label place : ℕ) (bytes : List ℕ) where
+  claim_outcome : (x : Option RecordFault) → claim_fault span places label place bytes ≡ x →
+      Outcome of_record (every_field_fits span places bytes ≡ true) (At label (Unclaimed span places label place bytes)) x
+  claim_outcome None e =
+      kept (⊎_elim (λ t. t) (λ f. let is = (like_or_fault span places label place bytes f).1 in absurd cc) (cases_Bool (every_field_fits span places bytes)))
+  claim_outcome (Some x) e =
+      let b = claim_some span places label place bytes x e in broken (rw b.3 (at (unclaimed b.1 b.2)))
+
+  unclaimed_named : Named of_record (claim_fault span places label place bytes) (At label (Unclaimed span places label place bytes))
+  unclaimed_named _ _ _ (at (unclaimed {field = field} inside first)) = (_, claim_named span places label place bytes field inside first, refl)
+
+  claim_judged : Judges of_record (claim_fault span places label place bytes) (every_field_fits span places bytes ≡ true)
+      (At label (Unclaimed span places label place bytes))
+  claim_judged = record { outcome = claim_outcome _ refl; none = claim_none span places label place bytes; some = unclaimed_named }
 
 -- How many instructions there can be.
 code_few : (bytes : List ℕ) (s : Sizes) (n : ℕ) → length (code_below bytes s n) ≤ n
 unfolding code_below
 code_few bytes s zero = omega arith
-code_few bytes s (suc n) =
-    let one : length (option_to_list (instruction_at bytes s n)) ≤ 1 = at_most_one (instruction_at bytes s n) in
-    omega (arith, length-append (code_below bytes s n) (option_to_list (instruction_at bytes s n)), code_few bytes s n)
-  where
-    at_most_one : (oi : Option Instruction) → length (option_to_list oi) ≤ 1
-    at_most_one None = omega arith
-    at_most_one (Some i) = omega arith
+code_few bytes s (suc n) = grind (arith, length-append, code_few bytes s n)
 
-sized_few : (n d rest : ℕ) (s : Sizes) → sized n d rest ≡ Ok s → s.instructions ≤ 128
-sized_few n d rest s e = grind (arith, nat_tests)
+sized_few : (n d found : ℕ) (s : Sizes) → sized n d found ≡ Ok s → s.instructions ≤ 128
+sized_few n d found s e = grind (arith, nat_tests)
 
 opened_few : (bytes : List ℕ) (s : Sizes) → opening bytes ≡ Ok s → s.instructions ≤ 128
-opened_few (n0 ∷ n1 ∷ d0 ∷ d1 ∷ rest) s e = sized_few (n0 + n1 * 256) (d0 + d1 * 256) (length rest) s e
+opened_few (n0 ∷ n1 ∷ d0 ∷ d1 ∷ rest) s e = sized_few (n0 + n1 * 256) (d0 + d1 * 256) (4 + length rest) s e
 opened_few _ s e = cc
 
--- What comes first of two.
-pub first_when_zero : (v w : ℕ × ℕ) → v.0 ≡ 0 → first_of v w ≡ w
-first_when_zero v w e = cond-true (eqb v.0 0) w v (eq-eqb v.0 0 e)
+field_is_some : (field : Field) → field_number field ≡ 0 → ⊥
+field_is_some Opening e = omega arith
+field_is_some Instructions e = omega arith
+field_is_some Places e = omega arith
+field_is_some Length e = omega arith
+field_is_some (of_instruction _ _) e = omega arith
+field_is_some (of_claim _ _) e = omega arith
 
-pub first_when_some : (v w : ℕ × ℕ) → v.0 ≢ 0 → first_of v w ≡ v
-first_when_some v w ne = cond-false (eqb v.0 0) w v (ne_eqb v.0 0 ne)
+rule_is_some : (rule : Rule) → rule_number rule ≡ 0 → ⊥
+rule_is_some Entry e = omega arith
+rule_is_some (Stack _) e = omega arith
+rule_is_some (BrokenStore _ _) e = omega arith
+rule_is_some (Successor _ _) e = omega arith
+rule_is_some (RegionExit _ _) e = omega arith
+rule_is_some (RegionLevel _ _) e = omega arith
 
+-- A job of some sizes, and any job.
 module _ (o : Order) (levels bytes : List ℕ) where
-  abbrev Outcome : ℕ × ℕ → Type 0
-  Outcome v = ((v ≡ (0, 0)) × Mountable o levels bytes) ⊎ ((v.0 ≢ 0) × FirstBroken o levels bytes v.0 v.1)
-
-  refused : (v : ℕ × ℕ) (number label : ℕ) → v ≡ (number, label) → number ≢ 0 → FirstBroken o levels bytes number label → Outcome v
-  refused v number label e ne b = subst Outcome (sym e) (inr (ne, b))
-
   module _ (s : Sizes) (opened : opening bytes ≡ Ok s) where
-    abbrev A : ℕ × ℕ
-    A = first_below (instruction_rule bytes s) s.instructions
+    abbrev J : ProgramWithClaims
+    J = job_in bytes s
 
-    abbrev B : ℕ × ℕ
-    B = first_below (claim_rule o bytes s) s.instructions
-
-    abbrev C : ℕ × ℕ
-    C = first_below (label_rule o levels (job_in bytes s)) (exit (job_in bytes s))
-
-    abbrev D : ℕ × ℕ
-    D = first_below (branch_rule o (job_in bytes s)) (exit (job_in bytes s))
-
-    abbrev R : ℕ × ℕ
-    R = rules_verdict o levels (job_in bytes s)
-
-    pub few : exit (job_in bytes s) ≤ 128
+    few : exit J ≤ 128
     few = omega (arith, code_few bytes s s.instructions, opened_few bytes s opened)
 
-    -- the labels that keep their rules, and the first that does not
-    labels_kept : (n : ℕ) → ((l : ℕ) → l < n → label_rule o levels (job_in bytes s) l ≡ 0) →
-        Below n (WhereClaimed (job_in bytes s) (LabelKept o levels (job_in bytes s)))
-    labels_kept n all l h c i e f =
-        ⊎_elim (λ p. p.0)
-        (λ p. absurd (p.1 (where_zero (rule_at o levels (job_in bytes s) l) ((job_in bytes s).claim l) (fetch (job_in bytes s).code l) (all l h) c i e f)))
-        (label_judged o levels (job_in bytes s) l c i)
+    abbrev AllSay : Type 0
+    AllSay = Below s.instructions (Says bytes s)
 
-    branches_kept : (n : ℕ) → ((l : ℕ) → l < n → branch_rule o (job_in bytes s) l ≡ 0) → Below n (WhereClaimed (job_in bytes s) (BranchKept o (job_in bytes s)))
-    branches_kept n all l h c i e f =
-        ⊎_elim (λ p. p.0)
-        (λ p. absurd (p.1 (where_zero (branch_at o (job_in bytes s) l) ((job_in bytes s).claim l) (fetch (job_in bytes s).code l) (all l h) c i e f)))
-        (branch_judged o (job_in bytes s) l c few i)
+    abbrev AllLike : Type 0
+    AllLike = Below s.instructions (LikeAClaim o bytes s)
 
-    label_broken : (l : ℕ) → l < exit (job_in bytes s) → ((k : ℕ) → k < l → label_rule o levels (job_in bytes s) k ≡ 0) →
-        label_rule o levels (job_in bytes s) l ≢ 0 →
-        BreaksAt (job_in bytes s) (LabelKept o levels (job_in bytes s)) (LabelBreaks o levels (job_in bytes s)) (label_rule o levels (job_in bytes s) l) l
-    label_broken l within before ne =
-        let w = where_some (rule_at o levels (job_in bytes s) l) ((job_in bytes s).claim l) (fetch (job_in bytes s).code l) ne in
-        record {
-          within = within;
-          before = labels_kept l before;
-          claimed = w.0;
-          instruction = w.1;
-          has = w.2;
-          fetched = w.3;
-          broken =
-              subst (LabelBreaks o levels (job_in bytes s) l w.0 w.1) (sym w.4)
-              (⊎_elim (λ p. absurd (ne (w.4 ∙ p.1))) (λ p. p.0) (label_judged o levels (job_in bytes s) l w.0 w.1));
-        }
+    abbrev BranchesKept : Type 0
+    BranchesKept = Below (exit J) (WhereClaimed J (BranchKept o J))
 
-    branch_broken : (l : ℕ) → l < exit (job_in bytes s) → ((k : ℕ) → k < l → branch_rule o (job_in bytes s) k ≡ 0) → branch_rule o (job_in bytes s) l ≢ 0 →
-        BreaksAt (job_in bytes s) (BranchKept o (job_in bytes s)) (BranchBreaks o (job_in bytes s)) (branch_rule o (job_in bytes s) l) l
-    branch_broken l within before ne =
-        let w = where_some (branch_at o (job_in bytes s) l) ((job_in bytes s).claim l) (fetch (job_in bytes s).code l) ne in
-        record {
-          within = within;
-          before = branches_kept l before;
-          claimed = w.0;
-          instruction = w.1;
-          has = w.2;
-          fetched = w.3;
-          broken =
-              subst (BranchBreaks o (job_in bytes s) l w.0 w.1) (sym w.4)
-              (⊎_elim (λ p. absurd (ne (w.4 ∙ p.1))) (λ p. p.0) (branch_judged o (job_in bytes s) l w.0 few w.1));
-        }
+    abbrev UnlikeClaim : Breaks
+    UnlikeClaim a l k = Unclaimed o.span s.places l (claim_place s l) (claim_record bytes s l) a k
 
-    -- the rules of claims, where the records are as they should be
-    rules_judged : Decodes o bytes s → Outcome R
-    rules_judged d =
-        let E : ℕ × ℕ = (entry_rule (job_in bytes s), 0) in
-        ⊎_elim
-        (λ (p : BeginsEmpty (job_in bytes s) × (entry_rule (job_in bytes s) ≡ 0)).
-        let past_entry : R ≡ first_of C D = first_when_zero E (first_of C D) p.1 in
-        ⊎_elim
-        (λ (c : Clear (label_rule o levels (job_in bytes s)) (exit (job_in bytes s)) C).
-        let kept = labels_kept (exit (job_in bytes s)) c.all in
-        let past_labels : R ≡ D = past_entry ∙ first_when_zero C D (ap (λ v. v.0) c.is) in
-        ⊎_elim
-        (λ (b : Clear (branch_rule o (job_in bytes s)) (exit (job_in bytes s)) D).
-        inl (
-          past_labels ∙ b.is,
-          record {
-            sizes = s;
-            decodes = d;
-            well_claimed = record { entry = p.0; labels = kept; branches = branches_kept (exit (job_in bytes s)) b.all };
-          },
-        ))
-        (λ (b : Found (branch_rule o (job_in bytes s)) (exit (job_in bytes s)) D).
-        refused R (branch_rule o (job_in bytes s) b.label) b.label (past_labels ∙ b.is) b.some
-        (at_branch d p.0 kept (branch_broken b.label b.within b.before b.some)))
-        (search_first (branch_rule o (job_in bytes s)) (exit (job_in bytes s))))
-        (λ (c : Found (label_rule o levels (job_in bytes s)) (exit (job_in bytes s)) C).
-        refused R (label_rule o levels (job_in bytes s) c.label) c.label
-        (past_entry ∙ first_when_some C D (λ z. c.some (ap (λ v. v.0) (sym c.is) ∙ z)) ∙ c.is) c.some
-        (at_label d p.0 (label_broken c.label c.within c.before c.some)))
-        (search_first (label_rule o levels (job_in bytes s)) (exit (job_in bytes s))))
-        (λ (p : (BeginsEmpty (job_in bytes s) → ⊥) × (entry_rule (job_in bytes s) ≡ 10)).
-        refused R 10 0 (first_when_some E (first_of C D) (λ z. no_ten 9 (sym p.1 ∙ z)) ∙ ap (λ k. (k, 0)) p.1) (λ z. no_ten 9 z) (entry d p.0))
-        (entry_judged (job_in bytes s))
+    abbrev Unlike : Breaks
+    Unlike = Either (First s.instructions (Says bytes s) (λ a l k. Unread bytes s l a k)) AllSay (First s.instructions (LikeAClaim o bytes s) UnlikeClaim)
 
-    sized_judged : Outcome (sized_verdict o levels bytes (Ok s))
+    abbrev RuleBroken : Breaks
+    RuleBroken = Either (NoEntry J) (BeginsEmpty J) (Either (LabelBreaksAt o levels J) (LabelsKept o levels J) (BranchBreaksAt o J))
+
+    abbrev AllKept : Type 0
+    AllKept = (AllSay × AllLike) × (BeginsEmpty J × (LabelsKept o levels J × BranchesKept))
+
+    sized_judged : Judges fault_answer (sized_fault o levels bytes (Ok s)) AllKept (Either Unlike (AllSay × AllLike) RuleBroken)
     sized_judged =
-        ⊎_elim
-        (λ (a : Clear (instruction_rule bytes s) s.instructions A).
-        let all_say : Below s.instructions (Says bytes s) = λ l h. says bytes s l (a.all l h) in
-        let past : records_verdict o bytes s ≡ B = first_when_zero A B (ap (λ v. v.0) a.is) in
-        ⊎_elim
-        (λ (b : Clear (claim_rule o bytes s) s.instructions B).
-        subst Outcome (sym (first_when_zero (records_verdict o bytes s) R (ap (λ v. v.0) (past ∙ b.is)))) (rules_judged (record {
-          opened = opened;
-          instructions = all_say;
-          claims = λ l h. like o bytes s l (b.all l h);
-        })))
-        (λ (b : Found (claim_rule o bytes s) s.instructions B).
-        let nine = like_not o bytes s b.label b.some in
-        let is : records_verdict o bytes s ≡ (9, b.label) = past ∙ b.is ∙ ap (λ k. (k, b.label)) nine.1 in
-        refused (sized_verdict o levels bytes (Ok s)) 9 b.label
-        (first_when_some (records_verdict o bytes s) R (λ z. no_ten 8 (ap (λ v. v.0) (sym is) ∙ z)) ∙ is) (λ z. no_ten 8 z)
-        (claim opened all_say b.within (λ l h. like o bytes s l (b.before l h)) nine.0))
-        (search_first (claim_rule o bytes s) s.instructions))
-        (λ (a : Found (instruction_rule bytes s) s.instructions A).
-        let eight = says_not bytes s a.label a.some in
-        let is : records_verdict o bytes s ≡ (8, a.label) =
-        first_when_some A B (λ z. a.some (ap (λ v. v.0) (sym a.is) ∙ z)) ∙ a.is ∙ ap (λ k. (k, a.label)) eight.1 in
-        refused (sized_verdict o levels bytes (Ok s)) 8 a.label
-        (first_when_some (records_verdict o bytes s) R (λ z. no_ten 7 (ap (λ v. v.0) (sym is) ∙ z)) ∙ is) (λ z. no_ten 7 z)
-        (instruction opened a.within (λ l h. says bytes s l (a.before l h)) eight.0))
-        (search_first (instruction_rule bytes s) s.instructions)
+        or_judged
+        (map_judged Record fault_answer
+        (or_judged (first_judged (instruction_fault bytes s) s.instructions (λ l w. instruction_judged bytes s l opened w))
+        (first_judged (claim_record_fault o bytes s) s.instructions
+        (λ l w. claim_judged o.span s.places l (claim_place s l) (claim_record bytes s l)))))
+        (map_judged Claims fault_answer
+        (or_judged (entry_judged J)
+        (or_judged (rules_judged J (rule_at o levels J) (label_judged o levels J)) (rules_judged J (branch_at o J) (branch_judged o J few)))))
 
-  pub verdict_judged : Outcome (verdict o levels bytes)
-  verdict_judged = by (opening bytes) refl
-    where
-      by : (r : Result Sizes ReadFault) → opening bytes ≡ r → Outcome (sized_verdict o levels bytes r)
-      by (Err fault) e = inr (read_is_some fault, unopened e)
-      by (Ok s) e = sized_judged s e
+    decodes : AllSay × AllLike → Decodes o bytes s
+    decodes h = record { opened = opened; instructions = h.0; claims = h.1 }
 
-  same_sizes : (s t : Sizes) → opening bytes ≡ Ok s → opening bytes ≡ Ok t → s ≡ t
-  same_sizes s t p q = cc
+    mounted : AllKept → Mountable o levels bytes
+    mounted h =
+        record { sizes = s; decodes = decodes h.0; well_claimed = record { entry = h.1.0; labels = h.1.1.0; branches = h.1.1.1 } }
 
-  pub label_clash : {number : ℕ} (job : ProgramWithClaims) (label : ℕ) (c : Claimed) (i : Instruction) → LabelKept o levels job label c i →
-      LabelBreaks o levels job label c i number → ⊥
-  label_clash job label c i k (stack f) = f k.fits
-  label_clash job label c i k (store _ f) = f k.stores
-  label_clash job label c i k (successor _ _ f) = f k.taken
+    -- what breaks first is the first broken rule
+    first_unread : (a m : ℕ) (k : Cause) → m < s.instructions → Below m (Says bytes s) → Unread bytes s m a k → FirstBroken o levels bytes a m k
+    first_unread _ _ _ w h (unread e f) = instruction opened w h e f
 
-  pub branch_clash : {number : ℕ} (job : ProgramWithClaims) (label : ℕ) (c : Claimed) (i : Instruction) → BranchKept o job label c i →
-      BranchBreaks o job label c i number → ⊥
-  branch_clash job label c i k (exit_inside f) = f k.avoids
-  branch_clash job label c i k (too_low _ f) = f k.raised
+    first_unclaimed : (a m : ℕ) (k : Cause) → AllSay → m < s.instructions → Below m (LikeAClaim o bytes s) → UnlikeClaim a m k →
+        FirstBroken o levels bytes a m k
+    first_unclaimed _ _ _ all w h (unclaimed e f) = claim opened all w h e f
 
-  claims_of : (s : Sizes) → opening bytes ≡ Ok s → (m : Mountable o levels bytes) → WellClaimed o levels (job_in bytes s)
-  claims_of s e m = subst (λ t. WellClaimed o levels (job_in bytes t)) (sym (same_sizes s m.sizes e m.decodes.opened)) m.well_claimed
+    first_no_entry : (a m : ℕ) (k : Cause) → Decodes o bytes s → NoEntry J a m k → FirstBroken o levels bytes a m k
+    first_no_entry _ _ _ d (no_entry f) = entry d f
 
-  -- a job that can be mounted breaks no rule
-  pub not_both : {number label : ℕ} → FirstBroken o levels bytes number label → Mountable o levels bytes → ⊥
-  not_both (unopened e) m = cc
-  not_both (instruction {s = s} {label = label} e within before broken) m =
-      broken (subst (λ t. Below t.instructions (Says bytes t)) (sym (same_sizes s m.sizes e m.decodes.opened)) m.decodes.instructions label within)
-  not_both (claim {s = s} {label = label} e all within before broken) m =
-      broken (subst (λ t. Below t.instructions (LikeAClaim o bytes t)) (sym (same_sizes s m.sizes e m.decodes.opened)) m.decodes.claims label within)
-  not_both (entry {s = s} d broken) m = broken (claims_of s d.opened m).entry
-  not_both (at_label {s = s} {label = label} d e b) m =
-      label_clash (job_in bytes s) label b.claimed b.instruction
-      ((claims_of s d.opened m).labels label b.within b.claimed b.instruction b.has b.fetched) b.broken
-  not_both (at_branch {s = s} {label = label} d e kept b) m =
-      branch_clash (job_in bytes s) label b.claimed b.instruction
-      ((claims_of s d.opened m).branches label b.within b.claimed b.instruction b.has b.fetched) b.broken
+    is_first : (a m : ℕ) (k : Cause) → Either Unlike (AllSay × AllLike) RuleBroken a m k → FirstBroken o levels bytes a m k
+    is_first a m k =
+        ⊎_elim (⊎_elim (λ b. first_unread a m k b.within b.before b.here) (λ b. first_unclaimed a m k b.0 b.1.within b.1.before b.1.here))
+        (λ r.
+        ⊎_elim (first_no_entry a m k (decodes r.0)) (λ e. ⊎_elim (λ b. at_label (decodes r.0) e.0 b) (λ b. at_branch (decodes r.0) e.0 b.0 b.1) e.1) r.1)
+
+    found_by : Named fault_answer (first_fault o levels bytes) (Either Unlike (AllSay × AllLike) RuleBroken)
+    found_by a m k h = let x = sized_judged.some a m k h in (x.0, rw opened x.1, x.2)
+
+  fault_outcome : (r : Result Sizes RecordFault) → opening bytes ≡ r →
+      Outcome fault_answer (Mountable o levels bytes) (FirstBroken o levels bytes) (sized_fault o levels bytes r)
+  fault_outcome (Err fault) e =
+      let w = is_unopened bytes fault e in
+      broken (subst (λ v. FirstBroken o levels bytes v.0 v.1 v.2) (sym w.is) (unopened w.wrong))
+  fault_outcome (Ok s) e = changed (sized_judged s e).outcome (mounted s e) (is_first s e)
+
+  fault_named : Named fault_answer (first_fault o levels bytes) (FirstBroken o levels bytes)
+  fault_named _ _ _ (unopened u) = let x = unopened_named bytes u in (Record x.0, rw x.1, x.2)
+  fault_named _ m _ (instruction {s = s} e w h r f) = found_by s e _ m _ (inl (inl (record { within = w; before = h; here = unread r f })))
+  fault_named _ m _ (claim {s = s} e all w h r f) = found_by s e _ m _ (inl (inr (all, record { within = w; before = h; here = unclaimed r f })))
+  fault_named a m k (entry {s = s} d f) = found_by s d.opened a m k (inr ((d.instructions, d.claims), inl (no_entry f)))
+  fault_named a m k (at_label {s = s} d e b) = found_by s d.opened a m k (inr ((d.instructions, d.claims), inr (e, inl b)))
+  fault_named a m k (at_branch {s = s} d e h b) = found_by s d.opened a m k (inr ((d.instructions, d.claims), inr (e, inr (h, b))))
+
+  pub fault_judged : Judges fault_answer (first_fault o levels bytes) (Mountable o levels bytes) (FirstBroken o levels bytes)
+  fault_judged =
+      record {
+        outcome = fault_outcome (opening bytes) refl;
+        none = λ m.
+            let d = m.decodes in
+            let w = m.well_claimed in
+            rw d.opened ((sized_judged m.sizes d.opened).none ((d.instructions, d.claims), (w.entry, (w.labels, w.branches))));
+        some = fault_named;
+      }
+
+  pub verdict_judged : ((first_fault o levels bytes ≡ None) × Mountable o levels bytes)
+      ⊎ ((x : MountFault) × (first_fault o levels bytes ≡ Some x) × FirstBroken o levels bytes (fault_answer x).0 (fault_answer x).1 (fault_answer x).2)
+  verdict_judged = either fault_judged.outcome
+
+  pub mountable_has_no_fault : Mountable o levels bytes → first_fault o levels bytes ≡ None
+  mountable_has_no_fault = fault_judged.none
+
+  -- no fault has the number 0
+  no_fault : (x : Option MountFault) → number_and_label (answer_to x) ≡ (0, 0) → x ≡ None
+  no_fault None e = refl
+  no_fault (Some (Record r)) e = absurd (field_is_some r.field (ap (λ v. v.0) e))
+  no_fault (Some (Claims rule)) e = absurd (rule_is_some rule (ap (λ v. v.0) e))
 
   pub judged : Judged o levels bytes
   judged =
       record {
-        accepted_is_mountable = λ e. ⊎_elim (λ p. p.1) (λ p. absurd (p.0 (ap (λ v. v.0) e))) verdict_judged;
-        mountable_is_accepted = λ m. ⊎_elim (λ p. p.0) (λ p. absurd (not_both p.1 m)) verdict_judged;
-        refused_names_the_first = λ ne. ⊎_elim (λ p. absurd (ne p.0)) (λ p. p.1) verdict_judged;
+        accepted_is_mountable = λ e. was_kept fault_judged.outcome (no_fault (first_fault o levels bytes) e);
+        mountable_is_accepted = λ m. ap answer_to (mountable_has_no_fault m);
+        refused_names_the_first =
+            λ ne. ⊎_elim (λ p. absurd (ne (ap (λ f. number_and_label (answer_to f)) p.0))) (λ p. rw p.1 p.2) verdict_judged;
+        first_is_named = λ b. let x = fault_named _ _ _ b in ap answer_to x.1 ∙ x.2;
       }

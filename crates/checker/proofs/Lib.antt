@@ -4,15 +4,15 @@ pub mod Decided
 pub mod DecodeFacts
 pub mod FirstFacts
 pub mod Judgement
+pub mod Judges
 pub mod Leaves
 pub mod LeavingFacts
-pub mod OnlyFirst
+pub mod Opened
 pub mod OpenFacts
 pub mod RegionFacts
 pub mod RegionSet
 pub mod RegionWalk
 pub mod Safety
 pub mod SoundFacts
-pub mod SuccessorFacts
 pub mod TwoRuns
 pub mod Typing

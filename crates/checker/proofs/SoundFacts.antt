@@ -1,20 +1,25 @@
 -- A job that decodes has sound instructions and claims over the lattice's levels. Assumes nothing.
-use Rattle.std.proofs.Common.{◌≡◌, ℕ, zero, suc, ◌+◌, ◌*◌, ◌<◌, ◌≤◌, Bool, true, false, cond, ◌&&◌, eqb, ltb, leb, List, [], ◌∷◌, ◌++◌, length, get_or, ℤ, pos, negsuc, Some, None, Option, sym, refl, ap, ◌∙◌, subst, add-one, arith, length-append, w32, to_z}
+use Rattle.std.proofs.Common.{◌≡◌, ℕ, zero, suc, ◌+◌, ◌*◌, ◌<◌, ◌≤◌, Bool, true, false, cond, eqb, List, [], ◌∷◌, ◌++◌, length, get_or, ℤ, pos, negsuc, Some, None, Ok, Err, Option, Result, sym, refl, ap, ◌∙◌, subst, add-one, arith, length-append}
 use Rattle.std.specs.Prelude as std
-use Rattle.std.specs.Bool.{then_some}
 use Rattle.std.specs.Option.{option_to_list}
+use Rattle.std.specs.Result.{result_ok}
 use Rattle.std.specs.List.{AllByRecursion as All}
 use Rattle.std.proofs.lemmas.List.FromFn.{map-range_with_len_more}
 use Rattle.std.proofs.ByRecursion.{All-append}
-use Rattle.std.proofs.lemmas.Bool.{and_parts, leb-true, ltb-true, false≢true}
+use Rattle.std.proofs.lemmas.Bool.{and_parts, and_from, ltb-true, lt-ltb, eqb-true, cond-true, cond-false, false≢true}
 use Rattle.lattice.specs.Order.{Order}
 use Rattle.push.specs.declared.instruction.Instruction.{Instruction}
 use Rattle.push.specs.declared.instruction.Instruction.TheVariants.{Load, Store, Push, Add, Sub, Eq, Less, Not, Goto, GotoF, Copy, Swap, Drop}
 use Rattle.push.specs.Code.{fetch}
 use Rattle.job.specs.declared.claim.Place.{Place}
 use Rattle.job.specs.declared.claim.Place.TheVariants.{IntegerAt, BooleanAt}
-use Rattle.job.specs.Layout.{Sizes, instruction_record, claim_record}
-use Rattle.job.specs.Records.{Claimed, level, up_to, natural, decoded, instruction_in, all_below, zeros, two, place_in, stack_in, claim_in, like_a_place, like_a_claim}
+use Rattle.job.specs.declared.field.InstructionField.TheVariants.{Operation, Junction, Operand}
+use Rattle.job.specs.declared.field.ClaimField.TheVariants.{Mark, Depth, Surrounding, Kind as PlaceKind, Level as PlaceLevel}
+use Rattle.job.specs.Faults.{is_below}
+use Rattle.job.specs.Fields.{InstructionFields, like_instruction, two, is_claimed, like_claim}
+use Rattle.job.specs.Layout.{Sizes, instruction_place, instruction_record, claim_record}
+use Rattle.job.specs.Records.{Claimed, level, Misread, natural, instruction_of, fields_in, fields_decoded, instruction_in, instruction_read, place_in, stack_in, claim_in, place_fits, every_field_fits}
+use Rattle.job.proofs.AllBelow.{all_below_holds}
 use Rattle.checker.specs.Verdict.{instruction_at, code_below}
 use Rattle.checker.specs.WellClaimed.{Decodes}
 
@@ -39,50 +44,55 @@ pub data Levels (o : Order) : List Place → Type 0 where
   none : Levels o []
   more : {p : Place} {ps : List Place} → level p < o.span → Levels o ps → Levels o (p ∷ ps)
 
-up_to_is : (limit : ℕ) (x : ℤ) → up_to limit x ≡ true → natural x ≤ limit
-up_to_is limit (pos n) h = leb-true n limit h
-up_to_is limit (negsuc n) h = absurd (false≢true h)
+under : (limit : ℕ) (x : ℤ) → is_below limit x ≡ true → natural x < limit
+under limit (pos n) h = ltb-true n limit h
+under limit (negsuc n) h = absurd (false≢true h)
 
 -- What a record says, if anything, is sound.
 module _ (exit : ℕ) where
-  abbrev SaysSound : Option Instruction → Type 0
-  SaysSound oi = All (Sound exit) (option_to_list oi)
+  either : (b : Bool) (i j : Instruction) → (b ≡ true → Sound exit i) → Sound exit j → Sound exit (cond b i j)
+  either true i j h k = h refl
+  either false i j h k = k
 
-  either : (b : Bool) (x y : Option Instruction) → SaysSound x → SaysSound y → SaysSound (cond b x y)
-  either true x y h k = h
-  either false x y h k = k
+  like_sound : (r : InstructionFields) → like_instruction exit r Operand ≡ true → Sound exit (instruction_of r)
+  like_sound r h =
+      let like : ℕ → Bool = λ n. like_instruction exit (record { operation = n; junction = r.junction; operand = r.operand }) Operand in
+      let is : (n : ℕ) → eqb r.operation n ≡ true → like n ≡ true = λ n e. subst (λ k. like k ≡ true) (eqb-true r.operation n e) h in
+      let target : is_below (exit + 1) r.operand ≡ true → natural r.operand ≤ exit = λ k. (let lt = under (exit + 1) r.operand k in omega arith) in
+      either (eqb r.operation 1) _ _ (λ e. load (under 32 r.operand (is 1 e)))
+      (either (eqb r.operation 2) _ _ (λ e. store (under 32 r.operand (is 2 e)))
+      (either (eqb r.operation 3) _ _ (λ _. push)
+      (either (eqb r.operation 4) _ _ (λ _. add)
+      (either (eqb r.operation 5) _ _ (λ _. sub)
+      (either (eqb r.operation 6) _ _ (λ _. eq)
+      (either (eqb r.operation 7) _ _ (λ _. less)
+      (either (eqb r.operation 8) _ _ (λ _. not)
+      (either (eqb r.operation 9) _ _ (λ e. goto (target (is 9 e)))
+      (either (eqb r.operation 10) _ _ (λ e. gotof (target (is 10 e)))
+      (either (eqb r.operation 11) _ _ (λ _. copy)
+      (either (eqb r.operation 12) _ _ (λ _. swap) drop)))))))))))
 
-  given_sound : (b : Bool) (i : Instruction) → (b ≡ true → Sound exit i) → SaysSound (then_some b i)
-  given_sound true i h = (h refl, tt)
-  given_sound false i h = tt
+  abbrev SaysSound : {E : Type 0} → Result Instruction E → Type 0
+  SaysSound said = All (Sound exit) (option_to_list (result_ok said))
 
-  decoded_sound : (operation junction : ℕ) (operand : ℤ) → SaysSound (decoded exit operation junction operand)
-  decoded_sound operation junction operand =
-      let none_else = eqb junction 0 in
-      let bare = none_else && up_to 0 operand in
-      let variable = none_else && up_to 31 operand in
-      let small : variable ≡ true → natural operand < 32 = λ h. (let k = up_to_is 31 operand (and_parts none_else (up_to 31 operand) h).1 in omega arith) in
-      let target : up_to exit operand ≡ true → natural operand ≤ exit = up_to_is exit operand in
-      either (eqb operation 1) _ _ (given_sound variable (Load (natural operand)) (λ h. load (small h)))
-      (either (eqb operation 2) _ _ (given_sound variable (Store (natural operand)) (λ h. store (small h)))
-      (either (eqb operation 3) _ _ (given_sound none_else (Push operand) (λ _. push))
-      (either (eqb operation 4) _ _ (given_sound bare Add (λ _. add))
-      (either (eqb operation 5) _ _ (given_sound bare Sub (λ _. sub))
-      (either (eqb operation 6) _ _ (given_sound bare Eq (λ _. eq))
-      (either (eqb operation 7) _ _ (given_sound bare Less (λ _. less))
-      (either (eqb operation 8) _ _ (given_sound bare Not (λ _. not))
-      (either (eqb operation 9) _ _
-      (given_sound (none_else && up_to exit operand) (Goto (natural operand)) (λ h. goto (target (and_parts none_else (up_to exit operand) h).1)))
-      (either (eqb operation 10) _ _
-      (given_sound (leb junction exit && up_to exit operand) (GotoF (natural operand) junction)
-      (λ h. gotof (target (and_parts (leb junction exit) (up_to exit operand) h).1)))
-      (either (eqb operation 11) _ _ (given_sound bare Copy (λ _. copy))
-      (either (eqb operation 12) _ _ (given_sound bare Swap (λ _. swap))
-      (either (eqb operation 13) _ _ (given_sound bare Drop (λ _. drop)) tt))))))))))))
+  unless_refused : (like : Bool) (refused : Misread) (said : Result Instruction Misread) → (like ≡ true → SaysSound said) →
+      SaysSound (cond (std.not like) (Err refused) said)
+  unless_refused true refused said h = h refl
+  unless_refused false refused said h = tt
 
-  record_sound : (bytes : List ℕ) → SaysSound (instruction_in exit bytes)
-  record_sound (operation ∷ junction ∷ b0 ∷ b1 ∷ b2 ∷ b3 ∷ []) = decoded_sound operation junction (to_z w32 (b0 + b1 * 256 + b2 * 65536 + b3 * 16777216))
-  record_sound _ = tt
+  fields_sound : (place found : ℕ) (fields : Option InstructionFields) → SaysSound (fields_decoded exit place found fields)
+  fields_sound place found None = tt
+  fields_sound place found (Some r) =
+      unless_refused (like_instruction exit r Operation) _ _
+      (λ _. unless_refused (like_instruction exit r Junction) _ _
+      (λ _. unless_refused (like_instruction exit r Operand) _ _ (λ h. (like_sound r h, tt))))
+
+  read_sound : (label : ℕ) (said : Result Instruction Misread) → SaysSound said → SaysSound (instruction_read label said)
+  read_sound label (Ok i) h = h
+  read_sound label (Err misread) h = tt
+
+  record_sound : (label place : ℕ) (bytes : List ℕ) → SaysSound (instruction_read label (instruction_in exit place bytes))
+  record_sound label place bytes = read_sound label _ (fields_sound place (length bytes) (fields_in bytes))
 
   all_fetched : (is : List Instruction) → All (Sound exit) is → (label : ℕ) (i : Instruction) → fetch is label ≡ Some i → Sound exit i
   all_fetched [] h label i e = cc
@@ -94,7 +104,7 @@ unfolding code_below
 code_sound bytes s zero = tt
 code_sound bytes s (suc n) =
     All-append (Sound s.instructions) (code_below bytes s n) (option_to_list (instruction_at bytes s n)) (code_sound bytes s n)
-    (record_sound s.instructions (instruction_record bytes n))
+    (record_sound s.instructions n (instruction_place n) (instruction_record bytes n))
 
 -- One more place under the others.
 one_under : (o : Order) (ps : List Place) (p : Place) → Levels o ps → level p < o.span → Levels o (ps ++ p ∷ [])
@@ -105,41 +115,46 @@ either_level : (b : Bool) (l : ℕ) → level (cond b (IntegerAt l) (BooleanAt l
 either_level true l = refl
 either_level false l = refl
 
--- A label that claims passed the test of a claim, not that of an empty record.
-claimed_when : (unclaimed empty like : Bool) (x c : Claimed) → cond unclaimed empty like ≡ true → cond unclaimed None (Some x) ≡ Some c →
-    (like ≡ true) × (x ≡ c)
-claimed_when true empty like x c h e = cc
-claimed_when false empty like x c h e = (h, cc)
+-- A label claims where its mark is not 0.
+claimed_when : (unclaimed : Bool) (x c : Claimed) → cond unclaimed None (Some x) ≡ Some c → (unclaimed ≡ false) × (x ≡ c)
+claimed_when true x c e = cc
+claimed_when false x c e = (refl, cc)
 
 module _ (o : Order) (bytes : List ℕ) where
-  place_level : (i : ℕ) → like_a_place o.span bytes i ≡ true → level (place_in bytes i) < o.span
-  place_level i h =
-      let l = two bytes (5 + 3 * i) in
-      let kind = get_or bytes (4 + 3 * i) 0 in
-      subst (λ k. k < o.span) (sym (either_level (eqb kind 0) l)) (ltb-true l o.span (and_parts (leb kind 1) (ltb l o.span) h).1)
-
-  stack_levels : (n : ℕ) → all_below (like_a_place o.span bytes) n ≡ true → Levels o (stack_in bytes n)
-  unfolding all_below
+  stack_levels : (n : ℕ) → ((i : ℕ) → i < n → level (place_in bytes i) < o.span) → Levels o (stack_in bytes n)
   stack_levels zero h = none
   stack_levels (suc n) h =
-      let p = and_parts (all_below (like_a_place o.span bytes) n) (like_a_place o.span bytes n) h in
       let last : stack_in bytes (suc n) ≡ stack_in bytes n ++ place_in bytes n ∷ [] =
       ap (stack_in bytes) (sym (add-one n)) ∙ map-range_with_len_more (place_in bytes) 0 n n (omega arith) in
-      subst (Levels o) (sym last) (one_under o (stack_in bytes n) (place_in bytes n) (stack_levels n p.0) (place_level n p.1))
+      subst (Levels o) (sym last) (one_under o (stack_in bytes n) (place_in bytes n) (stack_levels n (λ i w. h i (omega arith))) (h n (omega arith)))
 
-  claim_levels : (places : ℕ) (c : Claimed) → like_a_claim o.span places bytes ≡ true → claim_in bytes ≡ Some c → (c.surrounding < o.span) × Levels o c.stack
+  module _ (places : ℕ) (marked : eqb (get_or bytes 0 0) 0 ≡ false) where
+    place_level : (i : ℕ) → i < get_or bytes 1 0 → place_fits o.span places bytes i ≡ true → level (place_in bytes i) < o.span
+    place_level i within h =
+        let l = two bytes (5 + 3 * i) in
+        let claimed : is_claimed bytes i ≡ true = and_from _ _ (ap std.not marked) (lt-ltb i (get_or bytes 1 0) within) in
+        let at_most : l < cond (is_claimed bytes i) o.span 1 =
+        ltb-true _ _ (and_parts (like_claim o.span places bytes (PlaceKind i)) (like_claim o.span places bytes (PlaceLevel i)) h).1 in
+        subst (λ k. k < o.span) (sym (either_level (eqb (get_or bytes (4 + 3 * i) 0) 0) l))
+        (subst (λ k. l < k) (cond-true (is_claimed bytes i) o.span 1 claimed) at_most)
+
+    claimed_levels : every_field_fits o.span places bytes ≡ true → (two bytes 2 < o.span) × Levels o (stack_in bytes (get_or bytes 1 0))
+    claimed_levels h =
+        let unclaimed = eqb (get_or bytes 0 0) 0 in
+        let depth = get_or bytes 1 0 in
+        let p = and_parts (like_claim o.span places bytes Mark) _ h in
+        let q = and_parts (like_claim o.span places bytes Depth) _ p.1 in
+        let r = and_parts (like_claim o.span places bytes Surrounding) _ q.1 in
+        let room : depth < places + 1 = subst (λ k. depth < k) (cond-false unclaimed 1 (places + 1) marked) (ltb-true _ _ q.0) in (
+          subst (λ k. two bytes 2 < k) (cond-false unclaimed 1 o.span marked) (ltb-true _ _ r.0),
+          stack_levels depth (λ i w. place_level i w (all_below_holds (place_fits o.span places bytes) places r.1 i (omega arith))),
+        )
+
+  claim_levels : (places : ℕ) (c : Claimed) → every_field_fits o.span places bytes ≡ true → claim_in bytes ≡ Some c →
+      (c.surrounding < o.span) × Levels o c.stack
   claim_levels places c h e =
-      let depth = get_or bytes 1 0 in
-      let rest = zeros (std.drop (4 + 3 * depth) bytes) in
-      let stacked = all_below (like_a_place o.span bytes) depth in
-      let within = ltb (two bytes 2) o.span in
-      let k =
-      claimed_when (eqb (get_or bytes 0 0) 0) (zeros bytes) (eqb (get_or bytes 0 0) 1 && (leb depth places && (within && (stacked && rest))))
-      (record { surrounding = two bytes 2; stack = stack_in bytes depth }) c h e in
-      let p = and_parts (eqb (get_or bytes 0 0) 1) (leb depth places && (within && (stacked && rest))) k.0 in
-      let q = and_parts (leb depth places) (within && (stacked && rest)) p.1 in
-      let r = and_parts within (stacked && rest) q.1 in
-      subst (λ x. (x.surrounding < o.span) × Levels o x.stack) k.1 (ltb-true (two bytes 2) o.span r.0, stack_levels depth (and_parts stacked rest r.1).0)
+      let k = claimed_when (eqb (get_or bytes 0 0) 0) (record { surrounding = two bytes 2; stack = stack_in bytes (get_or bytes 1 0) }) c e in
+      subst (λ x. (x.surrounding < o.span) × Levels o x.stack) k.1 (claimed_levels places k.0 h)
 
 module _ (o : Order) (bytes : List ℕ) (s : Sizes) (d : Decodes o bytes s) where
   long : (n : ℕ) → n ≤ s.instructions → length (code_below bytes s n) ≡ n

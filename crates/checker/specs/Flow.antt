@@ -6,6 +6,7 @@ use Rattle.push.specs.declared.value.Value.{Value}
 use Rattle.push.specs.Machine.{Machine, at, ◌⊢◌⟶◌}
 use Rattle.push.specs.Run.{Steps, label_of}
 use Rattle.job.specs.Layout.{opening}
+use Rattle.checker.specs.Faults.{number_and_label}
 use Rattle.checker.specs.Verdict.{verdict, decoded_code}
 
 -- Whatever a run comes to is the exit, or a rule applies there.
@@ -37,9 +38,9 @@ LevelsOfVariables o levels = (v : ℕ) → v < 32 → slice_index levels v < o.s
 -- The two promises of acceptance.
 abbrev pub AcceptedJobsNeverFault : Order → List ℕ → List ℕ → Type 0
 AcceptedJobsNeverFault o levels bytes =
-    verdict o levels bytes ≡ (0, 0) → NeverFaults (decoded_code bytes (opening bytes))
+    number_and_label (verdict o levels bytes) ≡ (0, 0) → NeverFaults (decoded_code bytes (opening bytes))
 
 abbrev pub AcceptedJobsKeepClosed : Order → List ℕ → List ℕ → Type 0
 AcceptedJobsKeepClosed o levels bytes =
-    verdict o levels bytes ≡ (0, 0) → LevelsOfVariables o levels →
+    number_and_label (verdict o levels bytes) ≡ (0, 0) → LevelsOfVariables o levels →
     KeepsClosed o levels (decoded_code bytes (opening bytes))

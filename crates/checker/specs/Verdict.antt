@@ -1,13 +1,20 @@
--- The verdict on a job: the number and the label of the first rule that it breaks. Assumes nothing.
+-- The verdict on a job: the first fault that it has, and what mount answers for it. Assumes nothing.
 use Rattle.std.specs.Prelude.{ℕ, zero, suc, Bool, false, if◌then◌else◌, not, ◌||◌, List, [], ◌++◌, Some, None, Ok, Err, Option, Result, ◌==◌, slice_index_or, option_to_list}
+use Rattle.std.specs.Option.{option_or, option_map}
+use Rattle.std.specs.Result.{result_ok, result_err}
 use Rattle.lattice.specs.Order.{Order}
 use Rattle.push.specs.declared.instruction.Instruction.{Instruction}
 use Rattle.push.specs.declared.instruction.Instruction.TheVariants.{GotoF}
 use Rattle.push.specs.Code.{fetch}
-use Rattle.job.specs.declared.fault.ReadFault.{ReadFault}
-use Rattle.job.specs.Faults.{read_number}
-use Rattle.job.specs.Layout.{Sizes, opening, instruction_record, claim_record}
-use Rattle.job.specs.Records.{Claimed, instruction_in, claim_in, like_a_claim, all_below}
+use Rattle.job.specs.declared.fault.RecordFault.{RecordFault}
+use Rattle.job.specs.First.{first_below}
+use Rattle.job.specs.Layout.{Sizes, opening, instruction_place, instruction_record, claim_place, claim_record}
+use Rattle.job.specs.Records.{Claimed, instruction_in, instruction_read, claim_in, claim_fault}
+use Rattle.checker.specs.declared.fault.Rule.{Rule}
+use Rattle.checker.specs.declared.fault.Rule.TheVariants.{Entry, RegionExit, RegionLevel}
+use Rattle.checker.specs.declared.fault.MountFault.{MountFault}
+use Rattle.checker.specs.declared.fault.MountFault.TheVariants.{Record, Claims}
+use Rattle.checker.specs.Faults.{Answered, answer_to}
 use Rattle.checker.specs.Leaving.{level_at}
 use Rattle.checker.specs.Rules.{ProgramWithClaims, exit, is_empty, where_claimed, label_rule}
 use Rattle.checker.specs.Region.{region}
@@ -17,26 +24,30 @@ abbrev pub claim_at_least : Order → ℕ → Option Claimed → Bool
 claim_at_least o g None = false
 claim_at_least o g (Some c) = o.at_most g c.surrounding
 
--- A label is not marked, or its surrounding level is at least g; and so is every label.
+-- A label is not marked, or its surrounding level is at least g.
 abbrev pub is_surrounded_if_marked : Order → ProgramWithClaims → ℕ → List Bool → ℕ → Bool
 is_surrounded_if_marked o job g marks label =
     not (slice_index_or marks label false) || claim_at_least o g (job.claim label)
 
-abbrev pub marked_at_least : Order → ProgramWithClaims → ℕ → List Bool → Bool
-marked_at_least o job g marks = all_below (is_surrounded_if_marked o job g marks) (exit job)
+-- A marked label whose surrounding level is not, and the lowest such label.
+abbrev pub low_at : Order → ProgramWithClaims → ℕ → List Bool → ℕ → Option ℕ
+low_at o job g marks label =
+    if is_surrounded_if_marked o job g marks label then None else Some label
 
-abbrev pub region_rule : Order → ProgramWithClaims → ℕ → List Bool → ℕ
-region_rule o job g marks =
-    if slice_index_or marks (exit job) false then 14
-    else if not (marked_at_least o job g marks) then 15
-    else 0
+abbrev pub too_low : Order → ProgramWithClaims → ℕ → List Bool → Option ℕ
+too_low o job g marks = first_below (low_at o job g marks) (exit job)
 
-abbrev pub branch_at : Order → ProgramWithClaims → ℕ → Claimed → Instruction → ℕ
+abbrev pub region_rule : Order → ProgramWithClaims → ℕ → ℕ → List Bool → Option Rule
+region_rule o job label g marks =
+    if slice_index_or marks (exit job) false then Some (RegionExit label (exit job))
+    else option_map (RegionLevel label) (too_low o job g marks)
+
+abbrev pub branch_at : Order → ProgramWithClaims → ℕ → Claimed → Instruction → Option Rule
 branch_at o job label c (GotoF _ junction) =
-    region_rule o job (level_at c.stack 0) (region job.code junction label)
-branch_at o job label c _ = 0
+    region_rule o job label (level_at c.stack 0) (region job.code junction label)
+branch_at o job label c _ = None
 
-abbrev pub branch_rule : Order → ProgramWithClaims → ℕ → ℕ
+abbrev pub branch_rule : Order → ProgramWithClaims → ℕ → Option Rule
 branch_rule o job label =
     where_claimed (branch_at o job label) (job.claim label) (fetch job.code label)
 
@@ -45,34 +56,25 @@ abbrev pub empty_claim : Option Claimed → Bool
 empty_claim None = false
 empty_claim (Some c) = is_empty c.stack
 
-abbrev pub entry_rule : ProgramWithClaims → ℕ
-entry_rule job = if exit job == 0 then 0 else if empty_claim (job.claim 0) then 0 else 10
+abbrev pub entry_rule : ProgramWithClaims → Option Rule
+entry_rule job =
+    if exit job == 0 then None else if empty_claim (job.claim 0) then None else Some Entry
 
--- The first label below n at which a rule breaks, with the rule's number; 0 and 0 where there is none.
-unfoldable pub first_below : (ℕ → ℕ) → ℕ → ℕ × ℕ
-first_below rule zero = (0, 0)
-first_below rule (suc n) =
-    if (first_below rule n).0 == 0 then (if rule n == 0 then (0, 0) else (rule n, n))
-    else first_below rule n
+-- The records of a job: the instruction that one says, or its fault, and the fault of a claim record.
+abbrev pub decoded_at : List ℕ → Sizes → ℕ → Result Instruction RecordFault
+decoded_at bytes s label =
+    instruction_read label
+    (instruction_in s.instructions (instruction_place label) (instruction_record bytes label))
 
--- What breaks first of two in order.
-abbrev pub first_of : ℕ × ℕ → ℕ × ℕ → ℕ × ℕ
-first_of v w = if v.0 == 0 then w else v
-
--- The records of a job.
 abbrev pub instruction_at : List ℕ → Sizes → ℕ → Option Instruction
-instruction_at bytes s label = instruction_in s.instructions (instruction_record bytes label)
+instruction_at bytes s label = result_ok (decoded_at bytes s label)
 
-abbrev pub unlike_instruction : Option Instruction → ℕ
-unlike_instruction None = 8
-unlike_instruction (Some _) = 0
+abbrev pub instruction_fault : List ℕ → Sizes → ℕ → Option RecordFault
+instruction_fault bytes s label = result_err (decoded_at bytes s label)
 
-abbrev pub instruction_rule : List ℕ → Sizes → ℕ → ℕ
-instruction_rule bytes s label = unlike_instruction (instruction_at bytes s label)
-
-abbrev pub claim_rule : Order → List ℕ → Sizes → ℕ → ℕ
-claim_rule o bytes s label =
-    if like_a_claim o.span s.places (claim_record bytes s label) then 0 else 9
+abbrev pub claim_record_fault : Order → List ℕ → Sizes → ℕ → Option RecordFault
+claim_record_fault o bytes s label =
+    claim_fault o.span s.places label (claim_place s label) (claim_record bytes s label)
 
 -- The instructions of the first n records that say one.
 unfoldable pub code_below : List ℕ → Sizes → ℕ → List Instruction
@@ -86,27 +88,32 @@ claimed_job code bytes s =
 abbrev pub job_in : List ℕ → Sizes → ProgramWithClaims
 job_in bytes s = claimed_job (code_below bytes s s.instructions) bytes s
 
--- The rules in their order.
-abbrev pub rules_verdict : Order → List ℕ → ProgramWithClaims → ℕ × ℕ
-rules_verdict o levels job =
-    first_of (entry_rule job, 0)
-    (first_of (first_below (label_rule o levels job) (exit job))
+-- The first fault of the records, the first rule of claims that is broken, and the first fault of all.
+abbrev pub records_fault : Order → List ℕ → Sizes → Option RecordFault
+records_fault o bytes s =
+    option_or (first_below (instruction_fault bytes s) s.instructions)
+    (first_below (claim_record_fault o bytes s) s.instructions)
+
+abbrev pub broken_rule : Order → List ℕ → ProgramWithClaims → Option Rule
+broken_rule o levels job =
+    option_or (entry_rule job)
+    (option_or (first_below (label_rule o levels job) (exit job))
     (first_below (branch_rule o job) (exit job)))
 
-abbrev pub records_verdict : Order → List ℕ → Sizes → ℕ × ℕ
-records_verdict o bytes s =
-    first_of (first_below (instruction_rule bytes s) s.instructions)
-    (first_below (claim_rule o bytes s) s.instructions)
+abbrev pub sized_fault : Order → List ℕ → List ℕ → Result Sizes RecordFault → Option MountFault
+sized_fault o levels bytes (Err fault) = Some (Record fault)
+sized_fault o levels bytes (Ok s) =
+    option_or (option_map Record (records_fault o bytes s))
+    (option_map Claims (broken_rule o levels (job_in bytes s)))
 
-abbrev pub sized_verdict : Order → List ℕ → List ℕ → Result Sizes ReadFault → ℕ × ℕ
-sized_verdict o levels bytes (Err fault) = (read_number fault, 0)
-sized_verdict o levels bytes (Ok s) =
-    first_of (records_verdict o bytes s) (rules_verdict o levels (job_in bytes s))
+abbrev pub first_fault : Order → List ℕ → List ℕ → Option MountFault
+first_fault o levels bytes = sized_fault o levels bytes (opening bytes)
 
-abbrev pub verdict : Order → List ℕ → List ℕ → ℕ × ℕ
-verdict o levels bytes = sized_verdict o levels bytes (opening bytes)
+-- The verdict is what mount answers: number, label and cause.
+abbrev pub verdict : Order → List ℕ → List ℕ → Answered
+verdict o levels bytes = answer_to (first_fault o levels bytes)
 
 -- The instructions that a job's bytes say, where its opening can be read.
-abbrev pub decoded_code : List ℕ → Result Sizes ReadFault → List Instruction
+abbrev pub decoded_code : List ℕ → Result Sizes RecordFault → List Instruction
 decoded_code bytes (Err _) = []
 decoded_code bytes (Ok s) = code_below bytes s s.instructions

@@ -1,6 +1,6 @@
 ghost use Rattle.std.specs.Prelude.{◌≡◌};
-ghost use Rattle.checker.specs.Faults.{rule_answer};
-ghost use Rattle.checker.specs.Verdict.{claim_at_least, is_surrounded_if_marked as is_surrounded_if_marked_of, marked_at_least as marked_at_least_of, region_rule, branch_rule, entry_rule};
+ghost use Rattle.std.specs.Result.{result_err};
+ghost use Rattle.checker.specs.Verdict.{claim_at_least, is_surrounded_if_marked as is_surrounded_if_marked_of, too_low as too_low_of, region_rule, branch_rule, entry_rule};
 
 use crate::fault::Rule;
 use crate::job_check::JobCheck;
@@ -20,7 +20,7 @@ impl<L: Lattice> JobCheck<'_, L> {
 
     // The rule that label 0 breaks if it does not claim the empty stack that a run begins with. No instructions break none.
     pub(crate) fn check_entry(&self) -> Result<(), Rule>
-        ensures { rule_answer result ≡ entry_rule (job_of self.now) }
+        ensures { result_err result ≡ entry_rule (job_of self.now) }
     {
         if self.program.len() == 0 {
             return Ok(());
@@ -51,44 +51,54 @@ impl<L: Lattice> JobCheck<'_, L> {
         !region.marks.has(usize::from(label)) || self.is_at_least(region.guard, label)
     }
 
-    // Whether the surrounding level of every marked label is at least the guard.
-    fn marked_at_least(&self, region: &MarkedRegion) -> bool
+    // The lowest marked label whose surrounding level is below the guard.
+    #[tactic(auto, using(crate::proofs::FirstFacts::first_none, crate::proofs::FirstFacts::first_more, crate::proofs::FirstFacts::first_found))]
+    fn too_low(&self, region: &MarkedRegion) -> Option<u16>
         ensures { result
-            ≡ marked_at_least_of (L.Lattice.order self.now.lattice.now) (job_of self.now)
+            ≡ too_low_of (L.Lattice.order self.now.lattice.now) (job_of self.now)
             region.now.guard region.now.marks.at }
     {
-        let exit = self.program.len() as u16;
-        (0..exit).all(|label| self.is_surrounded_if_marked(region, label))
+        for label in 0..self.program.len() as u16 {
+            if !self.is_surrounded_if_marked(region, label) {
+                return Some(label);
+            }
+        }
+        None
     }
 
-    // The rule that a region breaks if the exit is in it, or a label whose surrounding level is below the guard.
-    fn check_region(&self, region: &MarkedRegion) -> Result<(), Rule>
-        ensures { rule_answer result
-            ≡ region_rule (L.Lattice.order self.now.lattice.now) (job_of self.now)
+    // The rule that a branch breaks if the exit is in its region, or a label whose surrounding level is below the guard.
+    fn check_region(&self, label: u16, region: &MarkedRegion) -> Result<(), Rule>
+        ensures { result_err result
+            ≡ region_rule (L.Lattice.order self.now.lattice.now) (job_of self.now) label
             region.now.guard region.now.marks.at }
     {
-        if region.marks.has(self.program.len()) {
-            return Err(Rule::RegionExit);
+        let exit = self.program.len();
+        if region.marks.has(exit) {
+            return Err(Rule::RegionExit {
+                label,
+                exit: exit as u16,
+            });
         }
-        if !self.marked_at_least(region) {
-            return Err(Rule::RegionLevel);
+        match self.too_low(region) {
+            Some(inside) => Err(Rule::RegionLevel { label, inside }),
+            None => Ok(()),
         }
-        Ok(())
     }
 
     // The first rule of regions that a label breaks, if it is a branch with a claim.
     pub(crate) fn check_branch(&self, label: u8) -> Result<(), Rule>
-        ensures { rule_answer result
+        ensures { result_err result
             ≡ branch_rule (L.Lattice.order self.now.lattice.now) (job_of self.now) label }
     {
         let claim = self.job.claim(u16::from(label));
         let instruction = self.program.fetch(usize::from(label));
         match (claim, instruction) {
             (Some(claim), Some(Instruction::GotoF { junction, .. })) => {
-                self.check_region(&MarkedRegion {
+                let region = MarkedRegion {
                     guard: self.job.stack_place(claim, 0).level(),
                     marks: Marks::region(self.program, junction, label),
-                })
+                };
+                self.check_region(u16::from(label), &region)
             }
             _ => Ok(()),
         }

@@ -1,11 +1,11 @@
 ghost use Rattle.std.specs.Prelude.{◌≡◌, Some, length, map, slice_index, slice_index_or};
+ghost use Rattle.std.specs.Result.{result_err};
 ghost use Rattle.job.specs.declared.claim.Place.TheVariants.{IntegerAt};
 ghost use Rattle.job.specs.Views.{claim_says};
 ghost use Rattle.push.specs.Language.{kinds_after};
 ghost use Rattle.job.specs.Records.{kind as kind_of};
-ghost use Rattle.checker.specs.Faults.{rule_answer};
 ghost use Rattle.checker.specs.Leaving.{joined_one as joined_one_of, joined_two as joined_two_of, raised_to, level_at, fits_under as fits_under_of, all_fit_under};
-ghost use Rattle.checker.specs.Rules.{stores_upward as stores_upward_of, takes as takes_of, successors_take as successors_take_of, rule_at, label_rule};
+ghost use Rattle.checker.specs.Rules.{lowered_variable as lowered_variable_of, takes as takes_of, first_refusing as first_refusing_of, rule_at, label_rule};
 
 use crate::fault::Rule;
 use crate::job_check::JobCheck;
@@ -156,18 +156,19 @@ impl<L: Lattice> LabelCheck<'_, L> {
             ))
     }
 
-    // Whether what is stored goes to a variable whose level is high enough.
-    fn stores_upward(&self) -> bool
+    // The variable into which a store would lower what it stores.
+    fn lowered_variable(&self) -> Option<u8>
         ensures { result
-            ≡ stores_upward_of (order_of L.Lattice.order self.now)
+            ≡ lowered_variable_of (order_of L.Lattice.order self.now)
             (levels_of self.now.check.now) (claimed_of self.now) self.now.instruction }
     {
         match self.instruction {
             Instruction::Store(variable) => {
                 let level = self.variable_level(variable);
-                self.check.lattice.at_most(self.joined_one(), level)
+                let is_upward = self.check.lattice.at_most(self.joined_one(), level);
+                (!is_upward).then_some(variable)
             }
-            _ => true,
+            _ => None,
         }
     }
 
@@ -187,18 +188,26 @@ impl<L: Lattice> LabelCheck<'_, L> {
         }
     }
 
-    // Whether every successor of the label takes what leaves it.
-    fn successors_take(&self, label: u8) -> bool
+    // The first successor of the label that does not take what leaves it.
+    fn first_refusing(&self, label: u8) -> Option<u16>
         ensures { result
-            ≡ successors_take_of (order_of L.Lattice.order self.now)
+            ≡ first_refusing_of (order_of L.Lattice.order self.now)
             (levels_of self.now.check.now) (job_of self.now.check.now)
             label (claimed_of self.now) self.now.instruction }
     {
-        self.instruction
-            .successors(label)
-            .into_iter()
-            .flatten()
-            .all(|next| self.is_taken_by(next))
+        // Not by `find`: of a closure that is lent its item, a proof does not know that it stays as it was.
+        let [next, target] = self.instruction.successors(label);
+        if let Some(next) = next
+            && !self.is_taken_by(next)
+        {
+            return Some(next);
+        }
+        if let Some(target) = target
+            && !self.is_taken_by(target)
+        {
+            return Some(target);
+        }
+        None
     }
 }
 
@@ -207,13 +216,14 @@ impl<L: Lattice> JobCheck<'_, L> {
 
     // The first rule that a claimed label breaks.
     fn check_claim(&self, label: u8, claim: Claim, instruction: Instruction) -> Result<(), Rule>
-        ensures { rule_answer result
+        ensures { result_err result
             ≡ rule_at (L.Lattice.order self.now.lattice.now) (levels_of self.now) (job_of self.now)
             label (claim_says self.now.job claim) instruction }
     {
+        let at = u16::from(label);
         let kinds = self.job.stack_kinds(claim);
         let Some(leaving) = kinds.and_then(|kinds| kinds.after(instruction)) else {
-            return Err(Rule::Stack);
+            return Err(Rule::Stack { label: at });
         };
         let label_check = LabelCheck {
             check: self,
@@ -221,18 +231,24 @@ impl<L: Lattice> JobCheck<'_, L> {
             instruction,
             leaving,
         };
-        if !label_check.stores_upward() {
-            return Err(Rule::Store);
+        if let Some(variable) = label_check.lowered_variable() {
+            return Err(Rule::Store {
+                label: at,
+                variable,
+            });
         }
-        if !label_check.successors_take(label) {
-            return Err(Rule::Successor);
+        match label_check.first_refusing(label) {
+            Some(successor) => Err(Rule::Successor {
+                label: at,
+                successor,
+            }),
+            None => Ok(()),
         }
-        Ok(())
     }
 
     // The first rule that a label breaks, if it has a claim.
     pub(crate) fn check_label(&self, label: u8) -> Result<(), Rule>
-        ensures { rule_answer result
+        ensures { result_err result
             ≡ label_rule (L.Lattice.order self.now.lattice.now) (levels_of self.now)
             (job_of self.now) label }
     {

@@ -1,23 +1,19 @@
 -- The outcome of each call is what the rules say, and only that, and so is the transcript of a list. Assumes the laws of
 -- the order, since it goes by the states that a list can come to (Kept.antt), whose runs are halted exactly at the exit.
-use Rattle.std.proofs.Common.{◌≡◌, ◌≢◌, ℕ, ◌+◌, ◌*◌, ◌<◌, ◌≤◌, Bool, true, false, cond, eqb, ltb, List, [], ◌∷◌, length, get_or, take, drop, set, replicate, pos, sym, refl, ap, ◌∙◌, subst, ⊎_elim, arith}
+use Rattle.std.proofs.Common.{◌≡◌, ⊎_elim, ◌≢◌, ℕ, ◌+◌, ◌*◌, ◌<◌, ◌≤◌, Bool, true, false, cond, eqb, ltb, List, [], ◌∷◌, length, get_or, take, drop, set, replicate, pos, sym, refl, ap, ◌∙◌, subst, arith}
 use lib.ListN.{length-replicate}
 use Rattle.std.proofs.lemmas.List.{take_at}
-use Rattle.std.proofs.lemmas.Bool.{true≢false, false≢true, eqb-true, ne_eqb, ltb-true, ltb-false, lt-ltb, le-ltb}
+use Rattle.std.proofs.lemmas.Bool.{true≢false, false≢true, ltb-true, ltb-false, lt-ltb, le-ltb}
 use Rattle.lattice.specs.Order.{Order, Laws}
 use Rattle.push.specs.declared.status.Status.{Status}
 use Rattle.push.specs.declared.status.Status.TheVariants.{Going, Halted, Faulted}
 use Rattle.push.specs.Run.{RunState, is_halted, label_of, values_of, status_number}
 use Rattle.push.proofs.AdvanceFacts.{advance_runs, run_advances_to}
-use Rattle.job.specs.Layout.{opening}
-use Rattle.checker.specs.Verdict.{verdict, decoded_code}
-use Rattle.checker.specs.WellClaimed.{FirstBroken}
-use Rattle.checker.proofs.Judgement.{verdict_judged, judged}
-use Rattle.checker.proofs.OnlyFirst.{mountable_breaks_none, broken_is_the_verdict}
+use Rattle.checker.proofs.Judgement.{verdict_judged, mountable_has_no_fault}
 use Rattle.controller.specs.State.{SetupState, ReadyState, RunningState, ready_with}
 use Rattle.controller.specs.Sheet.{open_count, sheet, sheet_in_front}
 use Rattle.controller.specs.Lists as lists
-use Rattle.controller.specs.Lists.{Call, grade, seal, mount, read, show, start, advance, end, unseal, Answer, State, in_setup, is_ready, is_running, Outcome, allowed, disallowed, setup_call, ready_call, running_call, outcome, sheet_shown, after_call, transcript_from, transcript}
+use Rattle.controller.specs.Lists.{Call, grade, seal, mount, read, show, start, advance, end, unseal, Answer, State, in_setup, is_ready, is_running, Outcome, allowed, disallowed, setup_call, ready_call, running_call, outcome, sheet_shown, transcript_from, transcript}
 use Rattle.controller.specs.Calls as rule
 use Rattle.controller.specs.Calls.{name_of, belongs_to, LeadsTo, AnswersFrom, none, made, stopped, AnswersOf, TranscriptFollowsTheRules}
 use Rattle.controller.proofs.SheetFacts.{length_lines}
@@ -56,21 +52,7 @@ setup_ruled s c = λ e. cc
 
 mount_ruled : (s : ReadyState Order) (bytes : List ℕ) → ByRule (is_ready s) (mount bytes) (ready_call s (mount bytes))
 mount_ruled s bytes =
-    ⊎_elim (λ p. subst Made (sym p.0) (rule.mount_accepted p.1)) (λ p. refused (eqb is.0 0) refl p.0 p.1) (verdict_judged s.lattice s.levels bytes)
-  where
-    is : ℕ × ℕ
-    is = verdict s.lattice s.levels bytes
-
-    out : ℕ × ℕ → Bool → (ℕ × ℕ) × ReadyState Order
-    out v ok = cond ok (v, record s { program = decoded_code bytes (opening bytes) }) (v, s)
-
-    Made : ℕ × ℕ → Type 0
-    Made v = LeadsTo (is_ready s) (mount bytes) (lists.mounted (out v (eqb v.0 0)).0) (is_ready (out v (eqb v.0 0)).1)
-
-    refused : (ok : Bool) → eqb is.0 0 ≡ ok → (is.0 ≡ 0 → ⊥) → FirstBroken s.lattice s.levels bytes is.0 is.1 →
-        LeadsTo (is_ready s) (mount bytes) (lists.mounted (out is ok).0) (is_ready (out is ok).1)
-    refused true e some broken = absurd (some (eqb-true is.0 0 e))
-    refused false e some broken = rule.mount_refused broken
+    ⊎_elim (λ p. rw p.0 (rule.mount_accepted p.1)) (λ p. rw p.1 (rule.mount_refused p.1 p.2)) (verdict_judged s.lattice s.levels bytes)
 
 show_ruled : (s : ReadyState Order) (observer long : ℕ) → ByRule (is_ready s) (show observer long) (ready_call s (show observer long))
 show_ruled s observer long = by (ltb observer s.lattice.span) (ltb (length buffer) (5 * count)) refl refl
@@ -154,14 +136,8 @@ leads_outcome (rule.grade_accepted {s = s} {v = v} {l = l} k h) = rw (lt-ltb v 3
 leads_outcome (rule.grade_no_variable {v = v} h) = rw (le-ltb v 32 h)
 leads_outcome (rule.grade_no_level {s = s} {v = v} {l = l} k h) = rw (lt-ltb v 32 k, le-ltb l s.lattice.span h)
 leads_outcome rule.seal_accepted = refl
-leads_outcome (rule.mount_accepted {s = s} {bytes = bytes} m) = rw ((judged s.lattice s.levels bytes).mountable_is_accepted m)
-leads_outcome (rule.mount_refused {s = s} {bytes = bytes} {number = number} {label = label} b) =
-    let is = broken_is_the_verdict s.lattice s.levels bytes number label b in
-    let some : number ≡ 0 → ⊥ =
-    λ z. ⊎_elim (λ p. mountable_breaks_none s.lattice s.levels bytes number label p.1 b) (λ p. p.0 (ap (λ v. v.0) is ∙ z))
-    (verdict_judged s.lattice s.levels bytes)
-    in
-    rw (is, ne_eqb number 0 some)
+leads_outcome (rule.mount_accepted {s = s} {bytes = bytes} m) = rw (mountable_has_no_fault s.lattice s.levels bytes m)
+leads_outcome (rule.mount_refused e b) = rw e
 leads_outcome (rule.set_accepted {v = v} k) = rw (lt-ltb v 32 k)
 leads_outcome (rule.set_no_variable {v = v} h) = rw (le-ltb v 32 h)
 leads_outcome (rule.read_accepted {v = v} k) = rw (lt-ltb v 32 k)

@@ -1,10 +1,10 @@
 -- What every state that a list of calls can come to keeps, so that no advance answers 2. Assumes the laws of the
 -- order.
-use Rattle.std.proofs.Common.{◌≡◌, ℕ, ◌+◌, Bool, true, false, cond, eqb, ltb, List, [], ◌∷◌, length, get_or, set, ℤ, pos, sym, refl, ap, ◌∙◌, subst, inl, ⊎_elim, arith}
+use Rattle.std.proofs.Common.{◌≡◌, ℕ, ◌+◌, Bool, true, false, cond, ltb, List, [], ◌∷◌, length, get_or, set, ℤ, pos, Some, None, Option, sym, refl, ap, ◌∙◌, subst, inl, ⊎_elim, arith}
 use lib.ListN.{length-replicate}
 use Rattle.std.proofs.lemmas.List.{length-set}
 use Rattle.std.proofs.lemmas.List.Sums.{sum_by-cons}
-use Rattle.std.proofs.lemmas.Bool.{cases_lt, true≢false, eqb-true, ltb-true, eq-eqb}
+use Rattle.std.proofs.lemmas.Bool.{cases_lt, true≢false, ltb-true, eq-eqb}
 use Rattle.lattice.specs.Order.{Order, Laws}
 use Rattle.push.specs.declared.instruction.Instruction.{Instruction}
 use Rattle.push.specs.declared.status.Status.{Status}
@@ -15,12 +15,13 @@ use Rattle.push.specs.Run as runs
 use Rattle.push.specs.Run.{RunState, Steps, run, begun, is_halted, label_of, values_of, TrueStatus, status_number}
 use Rattle.push.proofs.RunFacts.{run_advances, new_runs_are_true}
 use Rattle.job.specs.Layout.{opening}
-use Rattle.checker.specs.Verdict.{verdict, decoded_code}
-use Rattle.checker.proofs.Judgement.{verdict_judged}
+use Rattle.checker.specs.declared.fault.MountFault.{MountFault}
+use Rattle.checker.specs.Faults.{answer_to, number_and_label}
+use Rattle.checker.specs.Verdict.{first_fault, decoded_code}
 use Rattle.checker.proofs.Typing.{rule_within}
 use Rattle.checker.specs.Flow.{NeverFaults, KeepsClosed}
 use Rattle.checker.proofs.Safety.{accepted_jobs_never_fault, accepted_jobs_keep_closed}
-use Rattle.controller.specs.State.{SetupState, ReadyState, RunningState, ThirtyTwoLevels, Safe, ready_with}
+use Rattle.controller.specs.State.{SetupState, ReadyState, RunningState, ThirtyTwoLevels, Safe, mounted_state, ready_with}
 use Rattle.controller.specs.Lists as lists
 use Rattle.controller.specs.Lists.{Call, grade, seal, mount, read, show, start, advance, end, unseal, Answer, graded, mounted, was_set, ended, State, in_setup, is_ready, is_running, Outcome, allowed, disallowed, setup_call, ready_call, running_call, outcome, after_call, transcript_from, new_controller, transcript}
 use Rattle.controller.specs.Theorem.{fault_in, stack_faults}
@@ -76,10 +77,6 @@ goes_on code values r budget way =
 starts_so : (code : List Instruction) (values : List ℤ) → UnderWay code values (begun code values)
 starts_so code values = record { count = 0; reached = runs.none; honest = new_runs_are_true code values }
 
--- A verdict of the number 0 has the label 0.
-accepted : (o : Order) (levels bytes : List ℕ) → (verdict o levels bytes).0 ≡ 0 → verdict o levels bytes ≡ (0, 0)
-accepted o levels bytes z = ⊎_elim (λ p. p.0) (λ p. absurd (p.0 z)) (verdict_judged o levels bytes)
-
 -- Where there are no levels nothing is open, so only the number of values counts.
 none_open : (o : Order) → Laws o → (levels : List ℕ) (program : List Instruction) → o.span ≡ 0 → KeepsClosed o levels program
 none_open o laws levels program empty w vs ws alike j k s t vs' ws' left right =
@@ -90,22 +87,22 @@ none_open o laws levels program empty w vs ws alike j k s t vs' ws' left right =
     }
 
 accepted_is_safe :
-    (o : Order) → Laws o → (levels bytes : List ℕ) → ThirtyTwoLevels o levels → (verdict o levels bytes).0 ≡ 0 →
+    (o : Order) → Laws o → (levels bytes : List ℕ) → ThirtyTwoLevels o levels → first_fault o levels bytes ≡ None →
     Safe o levels (decoded_code bytes (opening bytes))
-accepted_is_safe o laws levels bytes g z =
-    let is = accepted o levels bytes z in
+accepted_is_safe o laws levels bytes g is =
+    let number = ap (λ found. number_and_label (answer_to found)) is in
     record {
-      never_faults = accepted_jobs_never_fault o levels bytes laws is;
+      never_faults = accepted_jobs_never_fault o levels bytes laws number;
       keeps_closed =
-          ⊎_elim (λ some. accepted_jobs_keep_closed o levels bytes laws is (g.are_levels some))
+          ⊎_elim (λ some. accepted_jobs_keep_closed o levels bytes laws number (g.are_levels some))
           (λ none. none_open o laws levels (decoded_code bytes (opening bytes)) (omega arith)) (cases_lt 0 o.span);
     }
 
 pub mounted_is_safe :
-    (o : Order) (levels bytes : List ℕ) (program : List Instruction) → Laws o → ThirtyTwoLevels o levels → verdict o levels bytes ≡ (0, 0) →
+    (o : Order) (levels bytes : List ℕ) (program : List Instruction) → Laws o → ThirtyTwoLevels o levels → first_fault o levels bytes ≡ None →
     program ≡ decoded_code bytes (opening bytes) → Safe o levels program
 mounted_is_safe o levels bytes program laws g is same =
-    subst (Safe o levels) (sym same) (accepted_is_safe o laws levels bytes g (ap (λ v. v.0) is))
+    subst (Safe o levels) (sym same) (accepted_is_safe o laws levels bytes g is)
 
 -- The empty program is safe.
 nothing_runs : {m n : Machine} → [] ⊢ m ⟶ n → ⊥
@@ -158,17 +155,14 @@ module _ (o : Order) (laws : Laws o) where
     stays none = good_allowed none (good_ready g safe long)
 
     ready_good : (c : Call) → GoodOutcome o (ready_call ready c)
-    ready_good (mount bytes) = by (eqb is.0 0) refl
+    ready_good (mount bytes) = by (first_fault o levels bytes) refl
       where
-        is : ℕ × ℕ
-        is = verdict o levels bytes
+        left : Option MountFault → ReadyState Order
+        left found = mounted_state ready found (decoded_code bytes (opening bytes))
 
-        out : Bool → (ℕ × ℕ) × ReadyState Order
-        out ok = cond ok (is, record ready { program = decoded_code bytes (opening bytes) }) (is, ready)
-
-        by : (ok : Bool) → eqb is.0 0 ≡ ok → GoodOutcome o (allowed (mounted (out ok).0) (is_ready (out ok).1))
-        by true e = good_allowed refl (good_ready g (accepted_is_safe o laws levels bytes g (eqb-true is.0 0 e)) long)
-        by false e = stays refl
+        by : (found : Option MountFault) → first_fault o levels bytes ≡ found → GoodOutcome o (allowed (mounted found) (is_ready (left found)))
+        by None e = good_allowed refl (good_ready g (accepted_is_safe o laws levels bytes g e) long)
+        by (Some fault) e = stays refl
     ready_good (lists.set v x) = by (ltb v 32)
       where
         out : Bool → ℕ × ReadyState Order

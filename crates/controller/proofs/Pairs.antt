@@ -1,5 +1,5 @@
 -- Two alike lists on controllers of their own show an observer the same. Assumes the laws of the order.
-use Rattle.std.proofs.Common.{◌≡◌, ℕ, zero, suc, ◌+◌, ◌*◌, ◌<◌, ◌≤◌, Bool, true, false, cond, eqb, ltb, List, [], ◌∷◌, ◌++◌, map, length, get_or, take, drop, set, replicate, ℤ, pos, sym, refl, ap, ◌∙◌, subst, ap₂, arith}
+use Rattle.std.proofs.Common.{◌≡◌, ℕ, zero, suc, ◌+◌, ◌*◌, ◌<◌, ◌≤◌, Bool, true, false, cond, ltb, List, [], ◌∷◌, ◌++◌, map, length, get_or, take, drop, set, replicate, ℤ, pos, Some, None, Option, sym, refl, ap, ◌∙◌, subst, ap₂, arith}
 use lib.ListN.{length-replicate}
 use Rattle.std.proofs.lemmas.List.{take_at, drop_at}
 use Rattle.std.proofs.lemmas.Bool.{true≢false, false≢true, eqb-true, ltb-true, eq-eqb}
@@ -9,13 +9,14 @@ use Rattle.push.specs.declared.instruction.Instruction.{Instruction}
 use Rattle.push.specs.Machine.{Machine, at}
 use Rattle.push.specs.Run.{RunState, Steps, is_halted, label_of, values_of}
 use Rattle.job.specs.Layout.{opening}
-use Rattle.checker.specs.Verdict.{verdict, decoded_code}
+use Rattle.checker.specs.declared.fault.MountFault.{MountFault}
+use Rattle.checker.specs.Verdict.{first_fault, decoded_code}
 use Rattle.checker.specs.Flow.{SameWhenOpen}
 use Rattle.checker.proofs.OpenFacts.{same_here, written}
-use Rattle.controller.specs.State.{SetupState, ReadyState, RunningState, Safe}
+use Rattle.controller.specs.State.{SetupState, ReadyState, RunningState, Safe, mounted_state}
 use Rattle.controller.specs.Sheet.{line, lines_below, open_count, shown_over}
 use Rattle.controller.specs.Lists as lists
-use Rattle.controller.specs.Lists.{Call, grade, seal, mount, read, show, start, advance, end, unseal, Answer, not_allowed, State, in_setup, is_ready, is_running, Outcome, allowed, disallowed, setup_call, ready_call, running_call, outcome, sheet_shown, after_call, transcript_from, transcript}
+use Rattle.controller.specs.Lists.{Call, grade, seal, mount, read, show, start, advance, end, unseal, Answer, not_allowed, State, in_setup, is_ready, is_running, Outcome, allowed, disallowed, setup_call, ready_call, running_call, outcome, sheet_shown, transcript_from, transcript}
 use Rattle.controller.specs.Theorem as theorem
 use Rattle.controller.specs.Theorem.{shows_to, sheet_in, sheets, show_answers, differing, differing_bytes, end_in, ends, state_after, Alike, ClosedValuesStayClosed}
 use Rattle.controller.proofs.ListFacts.{rest_of}
@@ -104,19 +105,15 @@ module _ (o : Order) (laws : Laws o) (w : ℕ) where
         by false e = both_allowed no_show refl (λ _. same_ready alike)
 
     mount_paired : (bytes : List ℕ) → Paired (mount bytes) (ready_call (ready_on vs) (mount bytes)) (ready_call (ready_on ws) (mount bytes))
-    mount_paired bytes = by (eqb is.0 0)
+    mount_paired bytes = by (first_fault o levels bytes)
       where
-        is : ℕ × ℕ
-        is = verdict o levels bytes
+        left : List ℤ → Option MountFault → ReadyState Order
+        left values found = mounted_state (ready_on values) found (decoded_code bytes (opening bytes))
 
-        out : List ℤ → Bool → (ℕ × ℕ) × ReadyState Order
-        out values ok = cond ok (is, record (ready_on values) { program = decoded_code bytes (opening bytes) }) (is, ready_on values)
-
-        by : (ok : Bool) →
-            Paired (mount bytes) (allowed (lists.mounted (out vs ok).0) (is_ready (out vs ok).1))
-            (allowed (lists.mounted (out ws ok).0) (is_ready (out ws ok).1))
-        by true = both_allowed no_show refl (λ _. same_ready alike)
-        by false = both_allowed no_show refl (λ _. same_ready alike)
+        by : (found : Option MountFault) →
+            Paired (mount bytes) (allowed (lists.mounted found) (is_ready (left vs found))) (allowed (lists.mounted found) (is_ready (left ws found)))
+        by None = both_allowed no_show refl (λ _. same_ready alike)
+        by (Some fault) = both_allowed no_show refl (λ _. same_ready alike)
 
     show_paired : (other long : ℕ) → Paired (show other long) (ready_call (ready_on vs) (show other long)) (ready_call (ready_on ws) (show other long))
     show_paired other long =

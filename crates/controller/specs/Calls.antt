@@ -1,12 +1,14 @@
 -- What each call does, by rules: by a call with its answer one state of a controller leads to another, and the answers
 -- of a list of calls are a chain of such steps. State.antt and Lists.antt say the same by functions; these rules are to
 -- be read first, and `TranscriptFollowsTheRules` at the end says that both agree. Assumes nothing.
-use Rattle.std.specs.Prelude.{◌≡◌, ◌≢◌, ℕ, ◌+◌, ◌*◌, ◌<◌, ◌≤◌, List, [], ◌∷◌, replicate, ℤ, pos, slice_index_or, slice_set}
+use Rattle.std.specs.Prelude.{◌≡◌, ◌≢◌, ℕ, ◌+◌, ◌*◌, ◌<◌, ◌≤◌, List, [], ◌∷◌, replicate, ℤ, pos, Some, None, slice_index_or, slice_set}
 use Rattle.lattice.specs.Order.{Order}
 use Rattle.push.specs.declared.status.Status.TheVariants as status
 use Rattle.push.specs.Run.{RunState, begun, values_of, status_number, AdvancesTo}
 use Rattle.job.specs.Layout.{opening}
-use Rattle.checker.specs.Verdict.{decoded_code}
+use Rattle.checker.specs.declared.fault.MountFault.{MountFault}
+use Rattle.checker.specs.Faults.{fault_answer}
+use Rattle.checker.specs.Verdict.{first_fault, decoded_code}
 use Rattle.checker.specs.WellClaimed.{Mountable, FirstBroken}
 use Rattle.controller.specs.declared.refusal.Refusal.TheVariants.{NoVariable, NoLevel, ShortBuffer}
 use Rattle.controller.specs.declared.ending.Ending.TheVariants.{Unfinished, Halted}
@@ -56,12 +58,14 @@ pub data LeadsTo : State → Call → Answer → State → Type 0 where
       }))
   mount_accepted :
       {s : ReadyState Order} {bytes : List ℕ} → Mountable s.lattice s.levels bytes →
-      LeadsTo (is_ready s) (mount bytes) (mounted (0, 0))
+      LeadsTo (is_ready s) (mount bytes) (mounted None)
       (is_ready (record s { program = decoded_code bytes (opening bytes) }))
   mount_refused :
-      {s : ReadyState Order} {bytes : List ℕ} {number label : ℕ} →
-      FirstBroken s.lattice s.levels bytes number label →
-      LeadsTo (is_ready s) (mount bytes) (mounted (number, label)) (is_ready s)
+      {s : ReadyState Order} {bytes : List ℕ} {fault : MountFault} →
+      first_fault s.lattice s.levels bytes ≡ Some fault →
+      FirstBroken s.lattice s.levels bytes (fault_answer fault).0 (fault_answer fault).1
+      (fault_answer fault).2 →
+      LeadsTo (is_ready s) (mount bytes) (mounted (Some fault)) (is_ready s)
   set_accepted :
       {s : ReadyState Order} {v : ℕ} {x : ℤ} → v < 32 →
       LeadsTo (is_ready s) (set v x) (was_set 0)

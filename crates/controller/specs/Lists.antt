@@ -1,7 +1,10 @@
 -- Lists of calls on one controller, and their transcripts. A call and an answer are those of the Rust enums with numbers
 -- in place of results and lists in place of slices; Views.antt turns the ones into the others. Assumes nothing.
-use Rattle.std.specs.Prelude.{ℕ, ◌+◌, ◌*◌, List, [], ◌∷◌, take, replicate, ℤ}
+use Rattle.std.specs.Prelude.{ℕ, ◌+◌, ◌*◌, List, [], ◌∷◌, take, replicate, ℤ, Option}
 use Rattle.lattice.specs.Order.{Order}
+use Rattle.checker.specs.declared.fault.MountFault.{MountFault}
+use Rattle.checker.specs.Faults.{Answered}
+use Rattle.checker.specs.Verdict.{first_fault}
 use Rattle.controller.specs.State.{SetupState, ReadyState, RunningState, new_state, grade_outcome, sealed_state, set_outcome, read_outcome, mount_outcome, unsealed_state, started_state, advance_outcome, end_outcome}
 use Rattle.controller.specs.Sheet.{show_outcome}
 
@@ -18,11 +21,13 @@ pub data Call : Type 0 where
   end : Call
   unseal : Call
 
--- What a call answers: numbers, and for a show its bytes as well; or that its state does not allow it, and its position.
+-- What a call answers: numbers, and for a show its bytes as well; or that its state does not allow it, and its position. A
+-- mount answers no fault where the job is accepted, and else the whole fault; `fault_answer` gives its number, label and
+-- cause.
 pub data Answer : Type 0 where
   graded : ℕ → Answer
   sealed : Answer
-  mounted : ℕ × ℕ → Answer
+  mounted : Option MountFault → Answer
   was_set : ℕ → Answer
   was_read : ℕ × ℤ → Answer
   shown : ℕ × ℕ → List ℕ → Answer
@@ -60,8 +65,8 @@ setup_call s _ = disallowed
 
 abbrev pub ready_call : ReadyState Order → Call → Outcome
 ready_call s (mount bytes) =
-    let out : (ℕ × ℕ) × ReadyState Order = mount_outcome the_order s bytes in
-    allowed (mounted out.0) (is_ready out.1)
+    let out : Answered × ReadyState Order = mount_outcome the_order s bytes in
+    allowed (mounted (first_fault s.lattice s.levels bytes)) (is_ready out.1)
 ready_call s (set variable value) =
     let out : ℕ × ReadyState Order = set_outcome s variable value in
     allowed (was_set out.0) (is_ready out.1)

@@ -1,11 +1,13 @@
 -- The states of a controller, and of each call its outcome: what it answers, and the state then. The contracts of the
 -- calls go by these functions; Calls.antt says the same by rules. Assumes nothing.
-use Rattle.std.specs.Prelude.{◌≡◌, ℕ, ◌<◌, if◌then◌else◌, List, [], length, replicate, ℤ, pos, ◌==◌, nat_lt, slice_index_or, slice_set}
+use Rattle.std.specs.Prelude.{◌≡◌, ℕ, ◌<◌, if◌then◌else◌, List, [], length, replicate, ℤ, pos, Some, None, Option, nat_lt, slice_index_or, slice_set}
 use Rattle.lattice.specs.Order.{Order}
 use Rattle.push.specs.declared.instruction.Instruction.{Instruction}
 use Rattle.push.specs.Run.{RunState, begun, run, status_number, is_halted, values_of}
 use Rattle.job.specs.Layout.{opening}
-use Rattle.checker.specs.Verdict.{verdict, decoded_code}
+use Rattle.checker.specs.declared.fault.MountFault.{MountFault}
+use Rattle.checker.specs.Faults.{Answered, answer_to}
+use Rattle.checker.specs.Verdict.{first_fault, decoded_code}
 use Rattle.checker.specs.Flow.{NeverFaults, KeepsClosed, LevelsOfVariables}
 
 -- In setup: the lattice, and each variable's level.
@@ -55,14 +57,21 @@ abbrev pub sealed_state : {L : Type 0} → SetupState L → ReadyState L
 sealed_state s =
     record { lattice = s.lattice; levels = s.levels; values = replicate 32 (pos 0); program = [] }
 
--- Mount answers the verdict on a job, and an accepted job's program replaces the one before.
-abbrev pub mounted : {L : Type 0} → ReadyState L → ℕ × ℕ → List Instruction → (ℕ × ℕ) × ReadyState L
-mounted s v program = if v.0 == 0 then (v, record s { program = program }) else (v, s)
+-- Mount goes by the first fault of a job. Where there is none, the job's program replaces the one before; else the answer
+-- is that fault's, and the state stays.
+abbrev pub mounted_state :
+    {L : Type 0} → ReadyState L → Option MountFault → List Instruction → ReadyState L
+mounted_state s None program = record s { program = program }
+mounted_state s (Some _) program = s
+
+abbrev pub mounted :
+    {L : Type 0} → ReadyState L → Option MountFault → List Instruction → Answered × ReadyState L
+mounted s found program = (answer_to found, mounted_state s found program)
 
 abbrev pub mount_outcome :
-    {L : Type 0} → (L → Order) → ReadyState L → List ℕ → (ℕ × ℕ) × ReadyState L
+    {L : Type 0} → (L → Order) → ReadyState L → List ℕ → Answered × ReadyState L
 mount_outcome order s bytes =
-    mounted s (verdict (order s.lattice) s.levels bytes) (decoded_code bytes (opening bytes))
+    mounted s (first_fault (order s.lattice) s.levels bytes) (decoded_code bytes (opening bytes))
 
 abbrev pub set_outcome : {L : Type 0} → ReadyState L → ℕ → ℤ → ℕ × ReadyState L
 set_outcome s variable value =

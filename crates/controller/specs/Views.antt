@@ -1,8 +1,8 @@
 -- What the Rust values of calls, answers and states are in the terms of Lists.antt. Assumes nothing.
 use Rattle.std.specs.Prelude.{◌≡◌, ℕ, ◌/◌, List, [], map, length, Some, None, Ok, Err, vec_items, Option, Result}
+use Rattle.std.specs.Result.{result_err}
 use Rattle.lattice.specs.Order.{Order}
 use Rattle.controller.specs.State.{SetupState, ReadyState, RunningState}
-use Rattle.checker.specs.Faults.{mount_answer}
 use Rattle.controller.specs.Answers.{refusal_number, done_answer, read_answer, advance_answer, ending_number}
 use Rattle.controller.specs.Lists as plain
 use Rattle.controller.specs.declared.refusal.Refusal.{Refusal}
@@ -37,7 +37,7 @@ sheet_answer (Err e) = plain.shown (refusal_number e, 0) []
 abbrev pub answer_of : Answer → plain.Answer
 answer_of (Graded r) = plain.graded (done_answer r)
 answer_of Sealed = plain.sealed
-answer_of (Mounted r) = plain.mounted (mount_answer r)
+answer_of (Mounted r) = plain.mounted (result_err r)
 answer_of (WasSet r) = plain.was_set (done_answer r)
 answer_of (WasRead r) = plain.was_read (read_answer r)
 answer_of (Shown r) = sheet_answer r

@@ -11,7 +11,7 @@ pub enum Answer {
     Graded(Result<(), Refusal>),
     /// To `Call::Seal`.
     Sealed,
-    /// To `Call::Mount`.
+    /// To `Call::Mount`: of a refused job the whole fault, which holds the cause.
     Mounted(Result<(), MountFault>),
     /// To `Call::Set`.
     WasSet(Result<(), Refusal>),

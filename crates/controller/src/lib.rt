@@ -1,5 +1,6 @@
 //! The controller: variables with levels and values, its states as types (`Setup`, `Ready`, `Running`), and the sheet that
-//! an observer may see. `transcript` and `two_transcripts` perform lists of calls, and their contracts hold the theorem.
+//! an observer may see. A mount that refuses hands up the job's first fault whole, and so does its answer in a list: number,
+//! label and cause. `transcript` and `two_transcripts` perform lists of calls, and their contracts hold the theorem.
 #![tactic(auto)]
 
 mod answer;

@@ -1,5 +1,7 @@
 ghost use Rattle.std.specs.Prelude.{◌≡◌, ◌*◌, ◌≤◌, length, IfOk, IfErr};
+ghost use Rattle.std.specs.Result.{result_err};
 ghost use Rattle.checker.specs.Faults.{mount_answer};
+ghost use Rattle.checker.specs.Verdict.{first_fault};
 ghost use Rattle.controller.specs.Answers.{done_answer, read_answer, shown_answer};
 ghost use Rattle.controller.specs.State.{Safe, set_outcome, read_outcome, mount_outcome, unsealed_state, started_state};
 ghost use Rattle.controller.specs.Sheet.{open_count, sheet_in_front, show_outcome};
@@ -42,10 +44,12 @@ impl<L: Lattice> Model for Ready<L> {
 }
 
 impl<L: Lattice> Ready<L> {
-    /// Takes a job: an accepted one replaces the mounted program.
+    /// Takes a job: an accepted one replaces the mounted program. The fault of a refused one is its first, handed up whole.
     pub fn mount(&mut self, bytes: &[u8]) -> Result<(), MountFault>
         ensures mounts_or_refuses { (mount_answer result, self.new)
             ≡ mount_outcome L.Lattice.order self.old bytes.now }
+        ensures fault_is_the_first { result_err result
+            ≡ first_fault (L.Lattice.order self.old.lattice) self.old.levels bytes.now }
         ensures refused_changes_nothing { IfErr result (λ _. self.new ≡ self.old) }
         ensures accepted_is_safe { IfOk result (λ _.
             Safe (L.Lattice.order self.new.lattice) self.new.levels self.new.program) }

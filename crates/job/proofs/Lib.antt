@@ -1,3 +1,5 @@
 pub mod AllBelow
-pub mod FaultFacts
+pub mod ByCases
+pub mod FieldFacts
+pub mod FirstFacts
 pub mod Stacks

@@ -1,12 +1,14 @@
-ghost use Rattle.std.specs.Prelude.{◌≡◌, IfSome, ◌+◌, ◌*◌, if◌then◌else◌, slice_index, slice_index_or};
+ghost use Rattle.std.specs.Prelude.{◌≡◌, IfSome, if◌then◌else◌, slice_index_or};
+ghost use Rattle.std.specs.Result.{result_err};
 ghost use Rattle.job.specs.Faults.{record_answer};
 ghost use Rattle.job.specs.Layout.{claim_place, claim_record};
-ghost use Rattle.job.specs.Records.{all_below, two, like_a_place, like_a_claim, claim_in, place_in, stack_kinds, kind as kind_of, level as level_of};
+ghost use Rattle.job.specs.Records.{claim_fault, like_a_claim, claim_in, place_in, stack_kinds, kind as kind_of, level as level_of};
 ghost use Rattle.job.specs.declared.claim.Place.TheVariants.{IntegerAt};
 ghost use Rattle.job.specs.Views.{sizes, claim_says, claimed};
 
+use crate::claim_record::ClaimRecord;
 use crate::fault::RecordFault;
-use crate::part::{byte, tail, two, zeros};
+use crate::part::{byte, two};
 use crate::reader::Job;
 use push::{Kind, StackKinds};
 
@@ -52,70 +54,39 @@ impl Place {
     }
 }
 
-// The kind byte and the level of a stack place of a claim record.
-fn place_parts(record: &[u8], place: u16) -> (u8, u16)
-    ensures kind { result.0 ≡ slice_index «record».now (4 + 3 * place) }
-    ensures level { result.1 ≡ two «record».now (5 + 3 * place) }
-{
-    let at = 4 + 3 * usize::from(place);
-    (byte(record, at), two(record, at + 1))
-}
-
 // A stack place of a claim record.
 fn place_in(record: &[u8], place: u16) -> Place
     ensures { result ≡ place_in «record».now place }
 {
-    match place_parts(record, place) {
-        (0, level) => Place::IntegerAt(level),
-        (_, level) => Place::BooleanAt(level),
-    }
-}
-
-// Whether a stack place of a claim record is like its description.
-fn is_place(span: u32, record: &[u8], place: u16) -> bool
-    ensures { result ≡ like_a_place span «record».now place }
-{
-    let (kind, level) = place_parts(record, place);
-    kind <= 1 && u32::from(level) < span
-}
-
-// Whether the first stack places of a claim record are like their description.
-fn are_places(span: u32, record: &[u8], depth: u8) -> bool
-    ensures { result ≡ all_below (like_a_place span «record».now) depth }
-{
-    (0..u16::from(depth)).all(|place| is_place(span, record, place))
-}
-
-// Whether a claim record is like its description, over a lattice of so many levels and with so many places.
-fn is_claim(span: u32, places: u8, record: &[u8]) -> bool
-    ensures { result ≡ like_a_claim span places «record».now }
-{
-    let depth = byte(record, 1);
-    match byte(record, 0) {
-        0 => zeros(record),
-        1 => {
-            depth <= places
-                && u32::from(two(record, 2)) < span
-                && are_places(span, record, depth)
-                && zeros(tail(record, 4 + 3 * usize::from(depth)))
-        }
-        _ => false,
+    let at = 4 + 3 * usize::from(place);
+    let level = two(record, at + 1);
+    match byte(record, at) {
+        0 => Place::IntegerAt(level),
+        _ => Place::BooleanAt(level),
     }
 }
 
 impl Job<'_> {
-    /// Sees that a label's claim record is like its description, over a lattice of so many levels.
+    /// Sees that a label's claim record is like its description, over a lattice of so many levels; else it names the first
+    /// field that is not.
+    #[tactic(auto, using(crate::proofs::ByCases::check_answer))]
     pub fn check_claim_record(&self, span: u32, label: u16) -> Result<(), RecordFault>
         ensures accepts_exactly_records_like_a_claim { record_answer result
             ≡ (if like_a_claim span (sizes self.now).places
             (claim_record self.now.bytes.now (sizes self.now) label) then 0 else 9) }
+        ensures names_the_first_field_that_is_unlike { result_err result
+            ≡ claim_fault span (sizes self.now).places label (claim_place (sizes self.now) label)
+            (claim_record self.now.bytes.now (sizes self.now) label) }
     {
-        let (_, record) = self.claim_record(label);
-        if is_claim(span, self.places, record) {
-            Ok(())
-        } else {
-            Err(RecordFault::Claim)
-        }
+        let place = self.claim_place(label);
+        let record = ClaimRecord {
+            label,
+            place,
+            bytes: self.record_at(place),
+            span,
+            places: self.places,
+        };
+        record.check_fields()
     }
 
     /// The claim of a label, if it has one.

@@ -1,5 +1,9 @@
 ghost use Rattle.std.specs.Prelude.{◌≡◌, take, drop, slice_index};
-ghost use Rattle.job.specs.Records.{two as two_of, zeros as zeros_of};
+ghost use Rattle.std.specs.Result.{result_err};
+ghost use Rattle.job.specs.Faults.{not_below, wrong_length};
+ghost use Rattle.job.specs.Fields.{two as two_of};
+
+use crate::fault::ReadFault;
 
 // The bytes from a place on, as far as there are bytes.
 pub(crate) fn tail<'a>(bytes: &'a [u8], at: usize) -> &'a [u8]
@@ -31,9 +35,28 @@ pub(crate) fn two(bytes: &[u8], at: usize) -> u16
     u16::from_le_bytes([byte(rest, 0), byte(rest, 1)])
 }
 
-// Whether every byte is zero.
-pub(crate) fn zeros(bytes: &[u8]) -> bool
-    ensures { result ≡ zeros_of bytes.now }
+// Sees that a number, found at a place, is from 0 to below a limit.
+pub(crate) fn below(place: usize, found: i32, limit: u32) -> Result<(), ReadFault>
+    ensures { result_err result ≡ not_below place found limit }
 {
-    bytes.iter().all(|byte| *byte == 0)
+    if u32::try_from(found).is_ok_and(|found| found < limit) {
+        Ok(())
+    } else {
+        Err(ReadFault::NotBelow {
+            place,
+            found,
+            limit,
+        })
+    }
+}
+
+// Sees that there are as many bytes as there have to be.
+pub(crate) fn of_length(found: usize, right: usize) -> Result<(), ReadFault>
+    ensures { result_err result ≡ wrong_length found right }
+{
+    if found == right {
+        Ok(())
+    } else {
+        Err(ReadFault::WrongLength { found, right })
+    }
 }

@@ -1,9 +1,10 @@
-ghost use Rattle.std.specs.Prelude.{◌≡◌, ◌<◌, IfOk};
+ghost use Rattle.std.specs.Prelude.{◌≡◌, ◌<◌, ◌^◌, IfOk};
 ghost use Rattle.job.specs.Layout.{opening, instruction_place, instruction_record, claim_length, claim_place, claim_record, record_at};
 ghost use Rattle.job.specs.Views.{sizes, sizes_read};
 
-use crate::fault::ReadFault;
-use crate::part::part;
+use crate::fault::{ReadFault, RecordFault};
+use crate::field::Field;
+use crate::part::{below, of_length, part};
 use push::{INSTRUCTIONS, STACK_PLACES};
 
 /// A job over the caller's bytes, with the two sizes that it opens with: the number of its instructions, and that of the
@@ -17,24 +18,26 @@ pub struct Job<'a> {
 
 impl<'a> Job<'a> {
     /// Reads a job's opening, and sees that the bytes are as many as it says.
-    pub fn read(bytes: &'a [u8]) -> Result<Job<'a>, ReadFault>
+    pub fn read(bytes: &'a [u8]) -> Result<Job<'a>, RecordFault>
         ensures sizes_are_what_the_opening_says { sizes_read result ≡ opening bytes.now }
         ensures job_is_over_these_bytes { IfOk result (λ j. j.bytes.now ≡ bytes.now) }
     {
         let [n0, n1, d0, d1, rest @ ..] = bytes else {
-            return Err(ReadFault::TooShort);
+            let fault = ReadFault::TooShort {
+                place: 0,
+                found: bytes.len(),
+                needed: 4,
+            };
+            return Err(RecordFault::from((Field::Opening, fault)));
         };
         let instructions = u16::from_le_bytes([*n0, *n1]);
         let places = u16::from_le_bytes([*d0, *d1]);
-        if usize::from(instructions) > INSTRUCTIONS {
-            return Err(ReadFault::TooManyInstructions);
-        }
-        if usize::from(places) > STACK_PLACES {
-            return Err(ReadFault::TooManyPlaces);
-        }
-        if rest.len() != usize::from(instructions) * (10 + 3 * usize::from(places)) {
-            return Err(ReadFault::WrongLength);
-        }
+        let instructions_fit = below(0, i32::from(instructions), INSTRUCTIONS as u32 + 1);
+        instructions_fit.map_err(|fault| (Field::Instructions, fault))?;
+        let places_fit = below(2, i32::from(places), STACK_PLACES as u32 + 1);
+        places_fit.map_err(|fault| (Field::Places, fault))?;
+        let right = 4 + usize::from(instructions) * (10 + 3 * usize::from(places));
+        of_length(4 + rest.len(), right).map_err(|fault| (Field::Length, fault))?;
         Ok(Job {
             bytes,
             instructions: instructions as u8,
@@ -65,8 +68,16 @@ impl<'a> Job<'a> {
         ensures bytes_are_the_records { result.1.now
             ≡ claim_record self.now.bytes.now (sizes self.now) label }
     {
-        let at = 4 + 6 * usize::from(self.instructions) + usize::from(label) * self.claim_length();
+        let at = self.claim_place(label);
         (at, self.record_at(at))
+    }
+
+    // The byte place of a label's claim record.
+    pub(crate) fn claim_place(&self, label: u16) -> usize
+        ensures value { result ≡ claim_place (sizes self.now) label }
+        ensures bound { result < 2 ^ 32 }
+    {
+        4 + 6 * usize::from(self.instructions) + usize::from(label) * self.claim_length()
     }
 
     // The bytes of a claim record.

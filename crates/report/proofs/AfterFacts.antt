@@ -1,31 +1,24 @@
 -- What the calls for an input answer before those that are made after its values are set. Assumes nothing.
-use Rattle.std.proofs.Common.{◌≡◌, ℕ, zero, suc, ◌+◌, ◌<◌, Bool, true, false, cond, eqb, ltb, ◌&&◌, List, ◌∷◌, ◌++◌, map, length, get_or, set, replicate, ℤ, pos, sym, refl, ap, ap₂, ◌∙◌, arith}
+use Rattle.std.proofs.Common.{◌≡◌, ℕ, zero, suc, ◌+◌, ◌<◌, Bool, true, false, cond, ltb, ◌&&◌, List, ◌∷◌, ◌++◌, map, length, get_or, set, replicate, ℤ, pos, Some, None, Option, refl, ap, ap₂, ◌∙◌, arith}
 use lib.ListN.{length-replicate}
 use Rattle.std.specs.List.{list_all, range_with_len}
 use Rattle.std.proofs.lemmas.List.{length-set}
-use Rattle.std.proofs.lemmas.List.FromFn.{fill_by_all}
 use Rattle.std.proofs.lemmas.List.Edits.{fill_by_more}
 use Rattle.std.proofs.lemmas.Bool.{lt-ltb}
 use Rattle.lattice.specs.Order.{Order}
 use Rattle.push.specs.declared.instruction.Instruction.{Instruction}
+use Rattle.job.specs.First.{all_below}
 use Rattle.job.specs.Layout.{opening}
-use Rattle.job.specs.Records.{all_below}
 use Rattle.job.proofs.AllBelow.{all_of_range}
-use Rattle.checker.specs.Verdict.{verdict, decoded_code}
+use Rattle.checker.specs.declared.fault.MountFault.{MountFault}
+use Rattle.checker.specs.Faults.{Answered}
+use Rattle.checker.specs.Verdict.{first_fault, decoded_code}
 use Rattle.controller.specs.State.{SetupState, ReadyState, mount_outcome, mounted as mounted_by}
 use Rattle.controller.specs.Lists as lists
 use Rattle.controller.specs.Lists.{Call, in_setup, is_ready, graded, mounted, was_set, seal, mount, the_order, transcript_from, transcript}
 use Rattle.report.specs.Input.{level, value, each, job, all_levels, sealed_controller, with_values}
 use Rattle.report.specs.Report.{bad_input, answers_text}
-
--- a list of 32 that has what f says at each place
-each_at : {X : Type 0} (f : ℕ → X) (xs : List X) (d : X) → length xs ≡ 32 → ((k : ℕ) → k < 32 → get_or xs k d ≡ f k) → xs ≡ each f
-unfolding each
-each_at f xs d long h = fill_by_all f xs 32 d long h
-
-each_is : {X : Type 0} (f : ℕ → X) (n : ℕ) → n ≡ 32 → each f ≡ map f (range_with_len 0 n)
-unfolding each
-each_is f n e = ap (λ k. map f (range_with_len 0 k)) (sym e)
+use Rattle.report.proofs.EachFacts.{each_at, each_is}
 
 module _ (o : Order) (bytes : List ℕ) (rest : List Call) where
   abbrev is_level : ℕ → Bool
@@ -42,8 +35,8 @@ module _ (o : Order) (bytes : List ℕ) (rest : List Call) where
   in_setup_text position levels calls = answers_text (transcript_from position (in_setup (record { lattice = o; levels = levels })) calls)
 
   -- the text of a mount's answer and of calls that are made after it
-  abbrev mounted_text : ℕ × ℕ → ℕ → ReadyState Order → List Call → List ℕ
-  mounted_text answer position s calls = answers_text (mounted answer ∷ transcript_from position (is_ready s) calls)
+  abbrev mounted_text : Option MountFault → ℕ → ReadyState Order → List Call → List ℕ
+  mounted_text found position s calls = answers_text (mounted found ∷ transcript_from position (is_ready s) calls)
 
   -- a grade leaves no line, and one that is refused makes the input bad
   text_graded : (n i : ℕ) (levels : List ℕ) → i + n ≡ 32 → length levels ≡ 32 → ((k : ℕ) → k < i → get_or levels k 0 ≡ level bytes k) →
@@ -68,35 +61,33 @@ module _ (o : Order) (bytes : List ℕ) (rest : List Call) where
       ∙ elim (is_level i) as (λ fits. text_of (out true fits) ≡ wanted fits) [ true ↦ next | false ↦ refl ]
 
   -- a set is never refused, and leaves no line
-  text_set : (n i position : ℕ) (answer : ℕ × ℕ) (l : Order) (levels : List ℕ) (values : List ℤ) (program : List Instruction) → i + n ≡ 32 →
+  text_set : (n i position : ℕ) (found : Option MountFault) (l : Order) (levels : List ℕ) (values : List ℤ) (program : List Instruction) → i + n ≡ 32 →
       position + n ≡ 66 → length values ≡ 32 → ((k : ℕ) → k < i → get_or values k (pos 0) ≡ value bytes k) →
-      mounted_text answer position (record { lattice = l; levels = levels; values = values; program = program }) (sets i n)
-      ≡ mounted_text answer 66 (record { lattice = l; levels = levels; values = each (value bytes); program = program }) rest
-  text_set zero i position answer l levels values program all end long done =
+      mounted_text found position (record { lattice = l; levels = levels; values = values; program = program }) (sets i n)
+      ≡ mounted_text found 66 (record { lattice = l; levels = levels; values = each (value bytes); program = program }) rest
+  text_set zero i position found l levels values program all end long done =
       let at : position ≡ 66 = omega arith in
-      ap₂ (λ p held. mounted_text answer p (record { lattice = l; levels = levels; values = held; program = program }) rest) at
+      ap₂ (λ p held. mounted_text found p (record { lattice = l; levels = levels; values = held; program = program }) rest) at
       (each_at (value bytes) values (pos 0) long (λ k h. done k (omega arith)))
-  text_set (suc n) i position answer l levels values program all end long done =
+  text_set (suc n) i position found l levels values program all end long done =
       let x = value bytes i in
       let holding : List ℤ → ReadyState Order = λ held. record { lattice = l; levels = levels; values = held; program = program } in
       let out : Bool → ℕ × ReadyState Order = λ known. cond known (0, holding (set values i x)) (1, holding values) in
       let text_of : ℕ × ReadyState Order → List ℕ =
-      λ s. answers_text (mounted answer ∷ was_set s.0 ∷ transcript_from (position + 1) (is_ready s.1) (sets (i + 1) n)) in
+      λ s. answers_text (mounted found ∷ was_set s.0 ∷ transcript_from (position + 1) (is_ready s.1) (sets (i + 1) n)) in
       let next_done = fill_by_more (value bytes) values i (pos 0) (omega arith) done in
       let next_long = length-set values i x ∙ long in
       ap (λ known. text_of (out known)) (lt-ltb i 32 (omega arith))
-      ∙ text_set n (i + 1) (position + 1) answer l levels (set values i x) program (omega arith) (omega arith) next_long next_done
+      ∙ text_set n (i + 1) (position + 1) found l levels (set values i x) program (omega arith) (omega arith) next_long next_done
 
 -- a mount leaves the lattice and the values
-pub lattice_stays : (s : ReadyState Order) (v : ℕ × ℕ) (program : List Instruction) → (mounted_by s v program).1.lattice ≡ s.lattice
-lattice_stays s v program =
-    let out : Bool → (ℕ × ℕ) × ReadyState Order = λ t. cond t (v, record s { program = program }) (v, s) in
-    elim (eqb v.0 0) as (λ t. (out t).1.lattice ≡ s.lattice) [ true ↦ refl | false ↦ refl ]
+pub lattice_stays : (s : ReadyState Order) (found : Option MountFault) (program : List Instruction) → (mounted_by s found program).1.lattice ≡ s.lattice
+lattice_stays s None program = refl
+lattice_stays s (Some fault) program = refl
 
-values_stay : (s : ReadyState Order) (v : ℕ × ℕ) (program : List Instruction) → (mounted_by s v program).1.values ≡ s.values
-values_stay s v program =
-    let out : Bool → (ℕ × ℕ) × ReadyState Order = λ t. cond t (v, record s { program = program }) (v, s) in
-    elim (eqb v.0 0) as (λ t. (out t).1.values ≡ s.values) [ true ↦ refl | false ↦ refl ]
+values_stay : (s : ReadyState Order) (found : Option MountFault) (program : List Instruction) → (mounted_by s found program).1.values ≡ s.values
+values_stay s None program = refl
+values_stay s (Some fault) program = refl
 
 -- the calls for an input, with others after its values are set
 abbrev pub calls_then : List ℕ → List Call → List Call
@@ -106,11 +97,11 @@ calls_then bytes after =
 
 module _ (o : Order) (bytes : List ℕ) (after : List Call) where
   -- the mount of the job on the graded and sealed controller
-  abbrev mounting : (ℕ × ℕ) × ReadyState Order
+  abbrev mounting : Answered × ReadyState Order
   mounting = mount_outcome the_order (sealed_controller o bytes) (job bytes)
 
   abbrev text : List ℕ
-  text = answers_text (mounted mounting.0 ∷ transcript_from 66 (is_ready (with_values bytes mounting.1)) after)
+  text = answers_text (mounted (first_fault o (each (level bytes)) (job bytes)) ∷ transcript_from 66 (is_ready (with_values bytes mounting.1)) after)
 
   abbrev after_grades : List Call → List Call
   after_grades sets = seal ∷ mount (job bytes) ∷ (sets ++ after)
@@ -121,7 +112,7 @@ module _ (o : Order) (bytes : List ℕ) (after : List Call) where
       let grading : ℕ → Call = λ variable. lists.grade variable (level bytes variable) in
       let setting : ℕ → Call = λ variable. lists.set variable (value bytes variable) in
       let sets = after_grades (each setting) in
-      let found = verdict o (each (level bytes)) (job bytes) in
+      let found = first_fault o (each (level bytes)) (job bytes) in
       let kept = values_stay (sealed_controller o bytes) found (decoded_code (job bytes) (opening (job bytes))) in
       let s = mounting.1 in
       let long : length s.values ≡ 32 = ap length kept ∙ length-replicate 32 (pos 0) in
@@ -130,7 +121,7 @@ module _ (o : Order) (bytes : List ℕ) (after : List Call) where
       ∙ text_graded o bytes sets n 0 (replicate 32 o.highest) (omega (arith, e)) (length-replicate 32 o.highest) (λ k h. absurd (omega arith))
       ∙ ap₂ (λ fit shown. cond fit shown bad_input) (all_of_range all_graded n ∙ ap (all_below all_graded) e)
       (ap (λ sets. graded (after_grades sets)) (each_is setting n e)
-      ∙ text_set o bytes after n 0 34 mounting.0 s.lattice s.levels s.values s.program (omega (arith, e)) (omega (arith, e)) long (λ k h. absurd (omega arith)))
+      ∙ text_set o bytes after n 0 34 found s.lattice s.levels s.values s.program (omega (arith, e)) (omega (arith, e)) long (λ k h. absurd (omega arith)))
 
   pub text_of_calls : answers_text (transcript o (calls_then bytes after)) ≡ cond (all_levels o bytes) text bad_input
   text_of_calls = text_by 32 refl

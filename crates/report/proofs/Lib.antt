@@ -1,4 +1,5 @@
 pub mod Made
+pub mod EachFacts
 pub mod Rows
 pub mod CallFacts
 pub mod AfterFacts

@@ -5,23 +5,25 @@ use Rattle.std.proofs.lemmas.Bool.{le-ltb}
 use Rattle.lattice.specs.Order.{Order}
 use Rattle.push.specs.Run.{is_halted, values_of}
 use Rattle.job.specs.Layout.{opening}
-use Rattle.checker.specs.Verdict.{verdict, decoded_code}
+use Rattle.checker.specs.declared.fault.MountFault.{MountFault}
+use Rattle.checker.specs.Faults.{answer_to}
+use Rattle.checker.specs.Verdict.{first_fault, decoded_code}
 use Rattle.controller.specs.State.{ReadyState, RunningState, ready_with, end_outcome}
 use Rattle.controller.specs.Sheet.{open_count, sheet, shown_over}
 use Rattle.controller.specs.Lists.{mounted, started, advanced, ended, start, advance, end, show, sheet_shown}
 use Rattle.controller.proofs.SheetFacts.{open_at_most, length_lines}
 use Rattle.report.specs.Input.{fits, kind, each, level, job, all_levels, observer, budget, sealed_controller}
 use Rattle.report.specs.Report.{bad_input, mount_line, run_line, end_line, sheet_text, answers_text, text_by_kind, transcript_text}
-use Rattle.report.specs.Outcomes.{mounting, running, ending, outcomes_text, ReportIsTheOutcomes}
+use Rattle.report.specs.Outcomes.{running, ending, outcomes_text, ReportIsTheOutcomes}
 use Rattle.report.proofs.AfterFacts.{lattice_stays, text_of_calls}
 
-module _ (m r : ℕ × ℕ) (e : ℕ) where
+module _ (found : Option MountFault) (r : ℕ × ℕ) (e : ℕ) where
   -- the answers of a report, where a show gives these
   abbrev shown_text : (ℕ × ℕ) × List ℕ → List ℕ
-  shown_text shown_by = answers_text (mounted m ∷ started ∷ advanced r ∷ ended e ∷ sheet_shown shown_by ∷ [])
+  shown_text shown_by = answers_text (mounted found ∷ started ∷ advanced r ∷ ended e ∷ sheet_shown shown_by ∷ [])
 
   abbrev lines_before : List ℕ → List ℕ
-  lines_before text = mount_line m ++ (run_line r ++ (end_line e ++ text))
+  lines_before text = mount_line (answer_to found) ++ (run_line r ++ (end_line e ++ text))
 
   -- a show into a buffer that any sheet fits
   shown_whole : (o : Order) (levels : List ℕ) (values : List ℤ) (w : ℕ) (buffer : List ℕ) → 160 ≤ length buffer →
@@ -56,20 +58,21 @@ end_leaves_lattice s =
 
 same_lattice : (o : Order) (bytes : List ℕ) → (ending o bytes).1.lattice ≡ o
 same_lattice o bytes =
-    let found = verdict o (each (level bytes)) (job bytes) in
+    let found = first_fault o (each (level bytes)) (job bytes) in
     end_leaves_lattice (running o bytes).1
     ∙ lattice_stays (sealed_controller o bytes) found (decoded_code (job bytes) (opening (job bytes)))
 
 by_outcomes : (o : Order) (bytes : List ℕ) → transcript_text o bytes ≡ outcomes_text o bytes
 by_outcomes o bytes =
     let w = observer bytes in
+    let found = first_fault o (each (level bytes)) (job bytes) in
     let left : ReadyState Order = (ending o bytes).1 in
     let buffer : List ℕ = replicate 160 0 in
     let room : 160 ≤ length buffer = omega (arith, length-replicate {A = ℕ} 160 0) in
-    let whole = shown_whole (mounting o bytes).0 (running o bytes).0 (ending o bytes).0 o left.levels left.values w buffer room in
+    let whole = shown_whole found (running o bytes).0 (ending o bytes).0 o left.levels left.values w buffer room in
     text_of_calls o bytes (start ∷ advance (budget bytes) ∷ end ∷ show w 160 ∷ [])
     ∙ ap (λ text. cond (all_levels o bytes) text bad_input)
-    (ap (λ l. shown_text (mounting o bytes).0 (running o bytes).0 (ending o bytes).0 (shown_over l left.levels left.values w buffer)) (same_lattice o bytes)
+    (ap (λ l. shown_text found (running o bytes).0 (ending o bytes).0 (shown_over l left.levels left.values w buffer)) (same_lattice o bytes)
     ∙ whole)
     ∙ both (all_levels o bytes) (ltb w o.span) _ bad_input
 

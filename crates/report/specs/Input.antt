@@ -4,12 +4,16 @@ use Rattle.std.specs.Int.{w32, cast_signed}
 use Rattle.std.specs.List.{range_with_len}
 use Rattle.lattice.specs.Order.{Order}
 use Rattle.lattice.specs.Kinds.{ladder, owners, flip, pair}
-use Rattle.job.specs.Records.{all_below}
+use Rattle.job.specs.First.{all_below}
 use Rattle.controller.specs.State.{ReadyState, sealed_state}
 use Rattle.controller.specs.Lists.{Call, grade, seal, mount, set, start, advance, end, show}
 
 abbrev pub fits : List ℕ → Bool
 fits bytes = nat_le 199 (length bytes) && nat_le (length bytes) 4555
+
+-- An input for a cause has the kind and the levels, and behind them a job.
+abbrev pub has_levels : List ℕ → Bool
+has_levels bytes = nat_le 65 (length bytes)
 
 -- The lattice that a kind byte names.
 abbrev pub kind : ℕ → Option Order
@@ -41,6 +45,9 @@ budget bytes =
 
 abbrev pub job : List ℕ → List ℕ
 job bytes = drop 199 bytes
+
+abbrev pub job_behind_levels : List ℕ → List ℕ
+job_behind_levels bytes = drop 65 bytes
 
 -- What f says of each variable, in rising order.
 unfoldable pub each : {X : Type 0} → (ℕ → X) → List X

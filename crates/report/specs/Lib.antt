@@ -1,4 +1,5 @@
 pub mod Input
 pub mod Report
 pub mod Outcomes
+pub mod Cause
 pub mod Views

@@ -1,15 +1,16 @@
 -- What a report says, in the outcomes that the controller's calls promise. Assumes nothing.
 use Rattle.std.specs.Prelude.{◌≡◌, ℕ, if◌then◌else◌, ◌&&◌, List, ◌++◌, nat_lt}
 use Rattle.lattice.specs.Order.{Order}
+use Rattle.checker.specs.Faults.{Answered}
 use Rattle.controller.specs.State.{ReadyState, RunningState, mount_outcome, started_state, advance_outcome, end_outcome}
 use Rattle.controller.specs.Sheet.{open_count, sheet}
 use Rattle.controller.specs.Lists.{the_order}
-use Rattle.report.specs.Input.{observer, budget, job, all_levels, sealed_controller, with_values}
+use Rattle.report.specs.Input.{fits, observer, budget, job, all_levels, sealed_controller, with_values}
 use Rattle.report.specs.Report.{bad_input, sheet_text, mount_line, run_line, end_line, input_text, report}
 
 -- The job mounted on the graded and sealed controller; its run on the input's values, advanced
 -- once; and the end of that.
-abbrev pub mounting : Order → List ℕ → (ℕ × ℕ) × ReadyState Order
+abbrev pub mounting : Order → List ℕ → Answered × ReadyState Order
 mounting o bytes = mount_outcome the_order (sealed_controller o bytes) (job bytes)
 
 abbrev pub running : Order → List ℕ → (ℕ × ℕ) × RunningState Order
@@ -38,4 +39,4 @@ outcomes_text o bytes =
     else bad_input
 
 abbrev pub ReportIsTheOutcomes : List ℕ → Type 0
-ReportIsTheOutcomes bytes = report bytes ≡ input_text outcomes_text bytes
+ReportIsTheOutcomes bytes = report bytes ≡ input_text fits outcomes_text bytes

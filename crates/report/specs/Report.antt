@@ -4,6 +4,7 @@ use Rattle.std.specs.Int.{w32, cast_signed}
 use Rattle.std.specs.Fmt.{signed_decimal}
 use Rattle.std.specs.List.{flat_map, list_any}
 use Rattle.lattice.specs.Order.{Order}
+use Rattle.checker.specs.Faults.{Answered, answer_to}
 use Rattle.controller.specs.Lists.{Answer, graded, mounted, shown, advanced, ended, transcript}
 use Rattle.report.specs.Input.{fits, kind, calls}
 
@@ -24,8 +25,8 @@ rows _ = []
 abbrev pub sheet_text : ℕ → List ℕ → List ℕ
 sheet_text count lines = codes "sheet " ++ (decimal count ++ (codes "\n" ++ rows lines))
 
--- The line of a mount's number and label.
-abbrev pub mount_line : ℕ × ℕ → List ℕ
+-- The line of a mount's number and label; the cause is not in it.
+abbrev pub mount_line : Answered → List ℕ
 mount_line answer =
     codes "mount " ++ (decimal answer.0 ++ (codes " " ++ (decimal answer.1 ++ codes "\n")))
 
@@ -38,7 +39,7 @@ end_line answer = codes "end " ++ (decimal answer ++ codes "\n")
 
 -- The lines of an answer; most calls have none.
 abbrev pub answer_lines : Answer → List ℕ
-answer_lines (mounted answer) = mount_line answer
+answer_lines (mounted fault) = mount_line (answer_to fault)
 answer_lines (advanced answer) = run_line answer
 answer_lines (ended answer) = end_line answer
 answer_lines (shown answer bytes) = if answer.0 == 0 then sheet_text answer.1 bytes else []
@@ -58,14 +59,17 @@ answers_text answers =
 abbrev pub transcript_text : Order → List ℕ → List ℕ
 transcript_text o bytes = answers_text (transcript o (calls bytes))
 
--- The text of an input, where its text over each lattice is given: that over the one that it names.
+-- The text of an input, where its text over each lattice is given: that over the one that it names. Where the bytes are
+-- not fitting in length, or name no kind, they are no input.
 abbrev pub text_by_kind : (Order → List ℕ → List ℕ) → Option Order → List ℕ → List ℕ
 text_by_kind text_over (Some o) bytes = text_over o bytes
 text_by_kind text_over None bytes = bad_input
 
-abbrev pub input_text : (Order → List ℕ → List ℕ) → List ℕ → List ℕ
-input_text text_over bytes =
-    if fits bytes then text_by_kind text_over (kind (slice_index bytes 0)) bytes else bad_input
+abbrev pub input_text : (List ℕ → Bool) → (Order → List ℕ → List ℕ) → List ℕ → List ℕ
+input_text fitting text_over bytes =
+    if fitting bytes
+    then text_by_kind text_over (kind (slice_index bytes 0)) bytes
+    else bad_input
 
 abbrev pub report : List ℕ → List ℕ
-report bytes = input_text transcript_text bytes
+report bytes = input_text fits transcript_text bytes

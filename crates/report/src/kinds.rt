@@ -1,13 +1,10 @@
 ghost use Rattle.std.specs.Prelude.{◌≡◌, IfOk, string_bytes};
-ghost use Rattle.report.specs.Report.{transcript_text, report as report_of};
-ghost use Rattle.report.specs.Outcomes.{ReportIsTheOutcomes};
+ghost use Rattle.report.specs.Report.{input_text};
 ghost use Rattle.report.specs.Views.{ReadsKind, IsTextUnlessNoMemory};
 
-use crate::calls::calls;
 use crate::input::Input;
 use crate::no_report::NoReport;
-use crate::text::{answers_text, bad_input};
-use controller::transcript;
+use crate::text::bad_input;
 use lattice::{Flip, Ladder, Lattice, Owners, Pair};
 use std::alloc::{AllocError, Global};
 
@@ -38,31 +35,37 @@ impl TryFrom<u8> for Kind {
     }
 }
 
-// The text of an input over a lattice.
-fn report_over<L: Lattice + Drop>(
-    heap: Global,
-    lattice: L,
-    input: &Input,
-) -> Result<String, NoReport>
-    ensures { IsTextUnlessNoMemory result
-        (transcript_text (L.Lattice.order lattice) input.now.bytes.now) }
-{
-    let calls = calls(heap, input)?;
-    let answers = transcript(heap, lattice, calls.as_slice())?;
-    answers_text(heap, answers.as_slice())
+/// A text that is made of an input, over the lattice that the input names.
+pub trait Text {
+    ghost use Rattle.std.specs.Prelude.{ℕ, Bool, List};
+    ghost use Rattle.lattice.specs.Order.{Order};
+
+    ghost fits: { List ℕ → Bool };
+
+    ghost over: { Order → List ℕ → List ℕ };
+
+    /// Whether the length is one that such an input may have.
+    fn fits(input: &Input) -> bool
+        ensures { result ≡ fits input.now.bytes.now };
+
+    /// The text over a lattice.
+    fn over<L: Lattice + Drop>(heap: Global, lattice: L, input: &Input) -> Result<String, NoReport>
+        ensures { IsTextUnlessNoMemory result
+            (over (L.Lattice.order lattice) input.now.bytes.now) };
 }
 
-// The same over the lattice that the input names.
-fn report_on(heap: Global, input: &Input) -> Result<String, NoReport>
-    ensures { IsTextUnlessNoMemory result (report_of input.now.bytes.now) }
+// The text of an input over the lattice that it names.
+fn text_on<T: Text>(heap: Global, input: &Input) -> Result<String, NoReport>
+    ensures { IsTextUnlessNoMemory result
+        (input_text T.Text.fits T.Text.over input.now.bytes.now) }
 {
-    if !input.fits() {
+    if !T::fits(input) {
         return Err(NoReport::NoInput);
     }
     match Kind::try_from(input.byte(0))? {
-        Kind::Ladder => report_over(heap, Ladder::new(16), input),
-        Kind::Owners => report_over(heap, Owners::new(4), input),
-        Kind::Pair => report_over(
+        Kind::Ladder => T::over(heap, Ladder::new(16), input),
+        Kind::Owners => T::over(heap, Owners::new(4), input),
+        Kind::Pair => T::over(
             heap,
             Pair::new(Ladder::new(4), Flip::new(Ladder::new(4))),
             input,
@@ -70,14 +73,12 @@ fn report_on(heap: Global, input: &Input) -> Result<String, NoReport>
     }
 }
 
-/// The report on the bytes of a bench input: one run of its job, and then what its observer may see. Bytes that are
-/// no input have the report `input`, one line; an error is want of memory alone.
-#[tactic(auto, using(crate::proofs::OutcomeFacts::report_is_the_outcomes))]
-pub fn report(heap: Global, bytes: &[u8]) -> Result<String, AllocError>
-    ensures text_is_the_report { IfOk result (λ t. string_bytes t ≡ report_of bytes.now) }
-    ensures report_is_the_outcomes { ReportIsTheOutcomes bytes.now }
+/// The same, and the line of no input where the bytes are none.
+pub fn text_of<T: Text>(heap: Global, bytes: &[u8]) -> Result<String, AllocError>
+    ensures { IfOk result (λ t.
+        string_bytes t ≡ input_text T.Text.fits T.Text.over bytes.now) }
 {
-    match report_on(heap, &Input { bytes }) {
+    match text_on::<T>(heap, &Input { bytes }) {
         Ok(text) => Ok(text),
         Err(NoReport::NoInput) => bad_input(heap),
         Err(NoReport::NoMemory(error)) => Err(error),

@@ -1,3 +1,5 @@
+use Rattle.std.proofs.Common.{ap}
+use Rattle.checker.specs.Faults.{answer_to}
 use Rattle.checker.proofs.Judgement.{judged}
 use Rattle.checker.proofs.LeavingFacts.{leaves_the_kinds_after}
 use Rattle.checker.proofs.RegionSet.{marks_are_the_region}
@@ -9,7 +11,8 @@ returns g c =
     let order = g.L.Lattice.order c.args.lattice.now in
     let laws = g.met.L.Lattice.lawful c.args.lattice.now in
     record {
-      answers_the_verdict = c.verdict_on_bytes.ensures.answers_the_verdict;
+      answers_the_verdict = ap answer_to c.verdict_on_bytes.ensures.fault_is_the_first;
+      fault_is_the_first = c.verdict_on_bytes.ensures.fault_is_the_first;
       program_is_what_the_bytes_say = c.verdict_on_bytes.ensures.program_is_what_the_bytes_say;
       accepts_exactly_the_mountable = judged order c.args.levels.now c.args.bytes.now;
       marks_are_the_region = marks_are_the_region;
