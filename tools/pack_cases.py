@@ -1,5 +1,5 @@
 #!/usr/bin/env python3
-"""Packs a folder of NNNNN.in and NNNNN.out pairs into one table of cases (docs/conformance.md).
+"""Packs a folder of NAME.in and NAME.out pairs into one table of cases (docs/conformance.md).
 
     tools/pack_cases.py FOLDER crates/conformance/data/cases.bin
 """

@@ -1,26 +1,27 @@
 ghost use Rattle.std.specs.Prelude.{◌≡◌, IfOk};
 ghost use Rattle.conformance.specs.Table.{next_case};
 ghost use Rattle.conformance.specs.Findings.{agrees};
-ghost use Rattle.conformance.specs.Views.{case_bytes, case_read};
+ghost use Rattle.conformance.specs.Views.{answer_to, case_bytes, case_read};
 
-use report::report;
+use crate::question::Question;
 use std::alloc::{AllocError, Global};
 
-/// A bench input and the report that is expected of it.
+/// An input and the text that is expected of it.
 #[derive(Clone, Copy)]
 pub struct Case<'a> {
-    /// The bytes that the bench would read; they may be no input.
+    /// The bytes of which the text is made; they may be no input.
     pub input: &'a [u8],
-    /// Every byte that the bench is to print.
+    /// Every byte of the text.
     pub expected: &'a [u8],
 }
 
 impl Case<'_> {
-    /// Whether the report on the input is the expected text, byte for byte.
-    pub fn agrees(&self, heap: Global) -> Result<bool, AllocError>
-        ensures true_where_as_expected { IfOk result (λ same. same ≡ agrees (case_bytes self.now)) }
+    /// Whether the text that is asked of the input is the expected one, byte for byte.
+    pub fn agrees(&self, heap: Global, question: Question) -> Result<bool, AllocError>
+        ensures true_where_as_expected { IfOk result (λ same.
+            same ≡ agrees (answer_to question) (case_bytes self.now)) }
     {
-        let given = report(heap, self.input)?;
+        let given = question.answer(heap, self.input)?;
         Ok(given.as_bytes() == self.expected)
     }
 }

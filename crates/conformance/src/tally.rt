@@ -1,5 +1,6 @@
 ghost use Rattle.std.specs.Prelude.{◌≤◌};
 
+use crate::question::Question;
 use crate::table::{Case, next_case};
 use std::alloc::{AllocError, Global};
 
@@ -22,17 +23,18 @@ impl<'a> Tally<'a> {
     ghost use Rattle.conformance.specs.Table.{cases, left_over};
     ghost use Rattle.conformance.specs.Findings.{agrees, findings_of, with_case};
     ghost use Rattle.conformance.specs.Summary.{is_clean as is_clean_of};
-    ghost use Rattle.conformance.specs.Views.{case_bytes, findings_in};
+    ghost use Rattle.conformance.specs.Views.{answer_to, case_bytes, findings_in};
 
     // Runs one case more.
-    fn note(&mut self, heap: Global, case: Case<'a>) -> Result<(), AllocError>
+    fn note(&mut self, heap: Global, question: Question, case: Case<'a>) -> Result<(), AllocError>
         requires { self.old.run + 1 < 2 ^ 64 }
         ensures { OnOk result (findings_in self.new
-            ≡ with_case (findings_in self.old) (case_bytes case.entry) (agrees (case_bytes case.entry))) }
+            ≡ with_case (findings_in self.old) (case_bytes case.entry)
+            (agrees (answer_to question) (case_bytes case.entry))) }
     {
         let number = self.run;
         self.run += 1;
-        if case.agrees(heap)? {
+        if case.agrees(heap, question)? {
             self.agreed += 1;
         } else {
             self.differs = self.differs.or(Some((number, case)));
@@ -41,9 +43,9 @@ impl<'a> Tally<'a> {
     }
 
     /// Runs the cases of a table in their order.
-    pub fn count(heap: Global, table: &'a [u8]) -> Result<Tally<'a>, AllocError>
+    pub fn count(heap: Global, question: Question, table: &'a [u8]) -> Result<Tally<'a>, AllocError>
         ensures all_cases_are_run { IfOk result (λ t.
-            findings_in t ≡ findings_of (cases table.now)) }
+            findings_in t ≡ findings_of (answer_to question) (cases table.now)) }
         ensures left_is_past_the_cases { IfOk result (λ t. t.left ≡ length (left_over table.now)) }
     {
         let mut tally = Tally {
@@ -55,7 +57,7 @@ impl<'a> Tally<'a> {
         // A loop and no iterator: the bytes after the last case are wanted too.
         let mut rest = table;
         while let Some((case, after)) = next_case(rest) {
-            tally.note(heap, case)?;
+            tally.note(heap, question, case)?;
             rest = after;
         }
         tally.left = rest.len();
