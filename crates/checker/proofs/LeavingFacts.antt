@@ -1,7 +1,7 @@
 -- What leaves a label: kind by kind, and place by place. Assumes nothing.
-use Rattle.std.proofs.Common.{◌≡◌, ℕ, zero, suc, ◌+◌, Bool, false, ◌&&◌, List, [], ◌∷◌, map, length, get_or, drop, Some, refl, sym, ap, ◌∙◌, ap₂, arith}
-use Rattle.std.specs.List.{list_all, range_with_len}
-use Rattle.std.proofs.lemmas.List.{drop_all, drop_more}
+use Rattle.std.proofs.Common.{◌≡◌, ℕ, suc, ◌+◌, ◌-◌, ◌<◌, ◌≤◌, Bool, true, false, ◌&&◌, List, [], ◌∷◌, ◌++◌, map, length, get_or, drop}
+use Rattle.std.proofs.Common.{Some, refl, sym, ap, ◌∙◌, ap₂, arith}
+use Rattle.std.proofs.lemmas.List.{drop_all, drop_more, length-append, length-map, get_or-append_right, get_or-map}
 use Rattle.std.proofs.lemmas.Bool.{and_right}
 use Rattle.std.proofs.lemmas.Option.{same_Some}
 use Rattle.lattice.specs.Order.{Order}
@@ -15,6 +15,7 @@ use Rattle.job.specs.declared.claim.Place.TheVariants.{IntegerAt, BooleanAt}
 use Rattle.job.specs.Records.{Claimed, kind}
 use Rattle.push.proofs.StackKindsFacts.{was_room}
 use Rattle.checker.specs.Leaving.{level_at, raised_to, places_after, LeavesTheKindsAfter, fits_under, all_fit_under}
+use Rattle.checker.specs.Keeping.{pushed_by, kept}
 
 -- a kind more on top, where there was room for it
 added : (k : Kind) (after before ks : List Kind) → after ≡ k ∷ before → one_more k before ≡ Some ks → after ≡ ks
@@ -85,8 +86,63 @@ module _ (o : Order) where
     abbrev pub fits_at : ℕ → Bool
     fits_at i = fits_under o (get_or xs i d) (get_or ys i d)
 
-    pub all_fit_at : (a n : ℕ) → a + n ≡ length xs → a + n ≡ length ys → all_fit_under o (drop a xs) (drop a ys) ≡ list_all fits_at (range_with_len a n)
-    all_fit_at a zero ex ey = ap₂ (all_fit_under o) (drop_all a xs (omega arith)) (drop_all a ys (omega arith))
-    all_fit_at a (suc n) ex ey =
-        ap₂ (all_fit_under o) (drop_more xs a d (omega arith)) (drop_more ys a d (omega arith))
-        ∙ ap (λ b. fits_at a && b) (all_fit_at (a + 1) n (omega arith) (omega arith))
+    -- as far as all fit, the rest decides
+    abbrev pub FitsAbove : ℕ → Type 0
+    FitsAbove i = all_fit_under o xs ys ≡ all_fit_under o (drop i xs) (drop i ys)
+
+    at_place : (i : ℕ) → i < length xs → i < length ys → FitsAbove i →
+        all_fit_under o xs ys ≡ (fits_at i && all_fit_under o (drop (i + 1) xs) (drop (i + 1) ys))
+    at_place i hx hy above = above ∙ ap₂ (all_fit_under o) (drop_more xs i d hx) (drop_more ys i d hy)
+
+    pub one_more_fits : (i : ℕ) → i < length xs → i < length ys → FitsAbove i → fits_at i ≡ true → FitsAbove (i + 1)
+    one_more_fits i hx hy above fits = at_place i hx hy above ∙ ap (λ b. b && all_fit_under o (drop (i + 1) xs) (drop (i + 1) ys)) fits
+
+    pub one_does_not : (i : ℕ) → i < length xs → i < length ys → FitsAbove i → fits_at i ≡ false → all_fit_under o xs ys ≡ false
+    one_does_not i hx hy above fits = at_place i hx hy above ∙ ap (λ b. b && all_fit_under o (drop (i + 1) xs) (drop (i + 1) ys)) fits
+
+    pub all_fit : (i : ℕ) → length xs ≤ i → length ys ≤ i → FitsAbove i → all_fit_under o xs ys ≡ true
+    all_fit i hx hy above = above ∙ ap₂ (all_fit_under o) (drop_all i xs hx) (drop_all i ys hy)
+
+-- counted from the bottom, two stacks with the same places at the bottom agree on these
+same_below : (new old s : List Place) (i : ℕ) (d : Place) → length new ≤ i →
+    get_or (new ++ s) i d ≡ get_or (old ++ s) (i + length (old ++ s) - length (new ++ s)) d
+same_below new old s i d h =
+    let n = length-append new s in
+    let o = length-append old s in
+    get_or-append_right new s (length new) i d refl h
+    ∙ ap (λ k. get_or s k d) (omega (arith, n, o, h))
+    ∙ sym (get_or-append_right old s (length old) (i + length (old ++ s) - length (new ++ s)) d refl (omega (arith, n, o, h)))
+
+-- the place under one more on top
+under : (n k m : ℕ) → m ≡ k → suc n ≡ n + suc k - m
+under n k m e = omega (arith, e)
+
+-- Below what is pushed, each place stood as far from the bottom before; the last clause is for stacks that are too short.
+kept_at : (o : Order) (levels : List ℕ) (c : Claimed) (i : Instruction) (s : List Place) (n : ℕ) (d : Place) →
+    pushed_by i ≤ n → n < length (places_after o levels c i s) →
+    get_or (places_after o levels c i s) n d ≡ kept o c i (get_or s (n + length s - length (places_after o levels c i s)) d)
+kept_at o levels c (Load v) s n d h w = same_below (_ ∷ []) [] s n d h
+kept_at o levels c (Store v) (a ∷ s) n d h w = same_below [] (a ∷ []) s n d h
+kept_at o levels c (Push x) s n d h w = same_below (_ ∷ []) [] s n d h
+kept_at o levels c Add (a ∷ b ∷ s) n d h w = same_below (_ ∷ []) (a ∷ b ∷ []) s n d h
+kept_at o levels c Sub (a ∷ b ∷ s) n d h w = same_below (_ ∷ []) (a ∷ b ∷ []) s n d h
+kept_at o levels c Eq (a ∷ b ∷ s) n d h w = same_below (_ ∷ []) (a ∷ b ∷ []) s n d h
+kept_at o levels c Less (a ∷ b ∷ s) n d h w = same_below (_ ∷ []) (a ∷ b ∷ []) s n d h
+kept_at o levels c Not (a ∷ s) n d h w = same_below (_ ∷ []) (a ∷ []) s n d h
+kept_at o levels c (Goto m) s n d h w = same_below [] [] s n d h
+kept_at o levels c (GotoF m j) (a ∷ s) n d h w =
+    let raise = raised_to o (level_at c.stack 0) in
+    let l = length-map s raise in
+    get_or-map raise s n d d (omega (arith, l, w)) ∙ ap (λ k. raise (get_or (a ∷ s) k d)) (under n (length s) (length (map raise s)) l)
+kept_at o levels c Copy (a ∷ s) n d h w = same_below (_ ∷ []) [] (a ∷ s) n d h
+kept_at o levels c Swap (a ∷ b ∷ s) n d h w = same_below (_ ∷ _ ∷ []) (a ∷ b ∷ []) s n d h
+kept_at o levels c Drop (a ∷ s) n d h w = same_below [] (a ∷ []) s n d h
+kept_at o levels c i s n d h w = absurd (omega (arith, w))
+
+-- the same by how many places are pushed and popped
+pub kept_from : (o : Order) (levels : List ℕ) (c : Claimed) (i : Instruction) (s : List Place) (d : Place) (pushed popped n : ℕ) → pushed ≡ pushed_by i →
+    length (places_after o levels c i s) + popped ≡ length s + pushed → pushed ≤ n → n < length (places_after o levels c i s) →
+    get_or (places_after o levels c i s) n d ≡ kept o c i (get_or s (n + popped - pushed) d)
+kept_from o levels c i s d pushed popped n is lengths h w =
+    kept_at o levels c i s n d (omega (arith, is, h)) w
+    ∙ ap (λ k. kept o c i (get_or s k d)) (omega (arith, is, lengths, h, w))

@@ -2,6 +2,7 @@ pub mod Agreeing
 pub mod ContainsFacts
 pub mod Decided
 pub mod DecodeFacts
+pub mod Ends
 pub mod FirstFacts
 pub mod Judgement
 pub mod Judges
@@ -9,10 +10,13 @@ pub mod Leaves
 pub mod LeavingFacts
 pub mod Opened
 pub mod OpenFacts
-pub mod RegionFacts
+pub mod RegionListFacts
+pub mod RegionLowest
+pub mod RegionReading
 pub mod RegionSet
 pub mod RegionWalk
 pub mod Safety
 pub mod SoundFacts
+pub mod SurroundingFacts
 pub mod TwoRuns
 pub mod Typing

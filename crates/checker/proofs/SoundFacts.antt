@@ -1,5 +1,5 @@
 -- A job that decodes has sound instructions and claims over the lattice's levels. Assumes nothing.
-use Rattle.std.proofs.Common.{◌≡◌, ℕ, zero, suc, ◌+◌, ◌*◌, ◌<◌, ◌≤◌, Bool, true, false, cond, eqb, List, [], ◌∷◌, ◌++◌, length, get_or, ℤ, pos, negsuc, Some, None, Ok, Err, Option, Result, sym, refl, ap, ◌∙◌, subst, add-one, arith, length-append}
+use Rattle.std.proofs.Common.{◌≡◌, ℕ, zero, suc, ◌+◌, ◌*◌, ◌<◌, ◌≤◌, Bool, true, false, cond, eqb, ltb, List, [], ◌∷◌, ◌++◌, length, get_or, ℤ, pos, negsuc, Some, None, Ok, Err, Option, Result, sym, refl, ap, ◌∙◌, subst, add-one, arith, length-append}
 use Rattle.std.specs.Prelude as std
 use Rattle.std.specs.Option.{option_to_list}
 use Rattle.std.specs.Result.{result_ok}
@@ -16,7 +16,7 @@ use Rattle.job.specs.declared.claim.Place.TheVariants.{IntegerAt, BooleanAt}
 use Rattle.job.specs.declared.field.InstructionField.TheVariants.{Operation, Junction, Operand}
 use Rattle.job.specs.declared.field.ClaimField.TheVariants.{Mark, Depth, Surrounding, Kind as PlaceKind, Level as PlaceLevel}
 use Rattle.job.specs.Faults.{is_below}
-use Rattle.job.specs.Fields.{InstructionFields, like_instruction, two, is_claimed, like_claim}
+use Rattle.job.specs.Fields.{InstructionFields, junction_limit, like_instruction, two, is_claimed, like_claim}
 use Rattle.job.specs.Layout.{Sizes, instruction_place, instruction_record, claim_record}
 use Rattle.job.specs.Records.{Claimed, level, Misread, natural, instruction_of, fields_in, fields_decoded, instruction_in, instruction_read, place_in, stack_in, claim_in, place_fits, every_field_fits}
 use Rattle.job.proofs.AllBelow.{all_below_holds}
@@ -34,7 +34,7 @@ pub data Sound (exit : ℕ) : Instruction → Type 0 where
   less : Sound exit Less
   not : Sound exit Not
   goto : {m : ℕ} → m ≤ exit → Sound exit (Goto m)
-  gotof : {m j : ℕ} → m ≤ exit → Sound exit (GotoF m j)
+  gotof : {m j : ℕ} → m ≤ exit → j ≤ exit → Sound exit (GotoF m j)
   copy : Sound exit Copy
   swap : Sound exit Swap
   drop : Sound exit Drop
@@ -54,10 +54,13 @@ module _ (exit : ℕ) where
   either true i j h k = h refl
   either false i j h k = k
 
-  like_sound : (r : InstructionFields) → like_instruction exit r Operand ≡ true → Sound exit (instruction_of r)
-  like_sound r h =
+  like_sound : (r : InstructionFields) → like_instruction exit r Junction ≡ true → like_instruction exit r Operand ≡ true → Sound exit (instruction_of r)
+  like_sound r met h =
       let like : ℕ → Bool = λ n. like_instruction exit (record { operation = n; junction = r.junction; operand = r.operand }) Operand in
       let is : (n : ℕ) → eqb r.operation n ≡ true → like n ≡ true = λ n e. subst (λ k. like k ≡ true) (eqb-true r.operation n e) h in
+      let meets : eqb r.operation 10 ≡ true → r.junction ≤ exit =
+      λ e. (let lt = ltb-true r.junction (exit + 1) (subst (λ k. ltb r.junction (junction_limit exit k) ≡ true) (eqb-true r.operation 10 e) met) in
+      omega arith) in
       let target : is_below (exit + 1) r.operand ≡ true → natural r.operand ≤ exit = λ k. (let lt = under (exit + 1) r.operand k in omega arith) in
       either (eqb r.operation 1) _ _ (λ e. load (under 32 r.operand (is 1 e)))
       (either (eqb r.operation 2) _ _ (λ e. store (under 32 r.operand (is 2 e)))
@@ -68,7 +71,7 @@ module _ (exit : ℕ) where
       (either (eqb r.operation 7) _ _ (λ _. less)
       (either (eqb r.operation 8) _ _ (λ _. not)
       (either (eqb r.operation 9) _ _ (λ e. goto (target (is 9 e)))
-      (either (eqb r.operation 10) _ _ (λ e. gotof (target (is 10 e)))
+      (either (eqb r.operation 10) _ _ (λ e. gotof (target (is 10 e)) (meets e))
       (either (eqb r.operation 11) _ _ (λ _. copy)
       (either (eqb r.operation 12) _ _ (λ _. swap) drop)))))))))))
 
@@ -85,7 +88,7 @@ module _ (exit : ℕ) where
   fields_sound place found (Some r) =
       unless_refused (like_instruction exit r Operation) _ _
       (λ _. unless_refused (like_instruction exit r Junction) _ _
-      (λ _. unless_refused (like_instruction exit r Operand) _ _ (λ h. (like_sound r h, tt))))
+      (λ met. unless_refused (like_instruction exit r Operand) _ _ (λ h. (like_sound r met h, tt))))
 
   read_sound : (label : ℕ) (said : Result Instruction Misread) → SaysSound said → SaysSound (instruction_read label said)
   read_sound label (Ok i) h = h
@@ -94,12 +97,12 @@ module _ (exit : ℕ) where
   record_sound : (label place : ℕ) (bytes : List ℕ) → SaysSound (instruction_read label (instruction_in exit place bytes))
   record_sound label place bytes = read_sound label _ (fields_sound place (length bytes) (fields_in bytes))
 
-  all_fetched : (is : List Instruction) → All (Sound exit) is → (label : ℕ) (i : Instruction) → fetch is label ≡ Some i → Sound exit i
+  pub all_fetched : (is : List Instruction) → All (Sound exit) is → (label : ℕ) (i : Instruction) → fetch is label ≡ Some i → Sound exit i
   all_fetched [] h label i e = cc
   all_fetched (x ∷ is) h zero i e = let same : x ≡ i = cc in subst (Sound exit) same h.0
   all_fetched (x ∷ is) h (suc label) i e = all_fetched is h.1 label i e
 
-code_sound : (bytes : List ℕ) (s : Sizes) (n : ℕ) → All (Sound s.instructions) (code_below bytes s n)
+pub code_sound : (bytes : List ℕ) (s : Sizes) (n : ℕ) → All (Sound s.instructions) (code_below bytes s n)
 unfolding code_below
 code_sound bytes s zero = tt
 code_sound bytes s (suc n) =

@@ -2,11 +2,12 @@
 -- faults. Assumes the laws of the order.
 use Rattle.std.proofs.Common.{◌≡◌, ℕ, ◌+◌, ◌<◌, ◌≤◌, Bool, true, false, cond, not, ◌⊎◌, List, [], ◌∷◌, length, get_or, ℤ, pos, int_lt, Some, sym, refl, ap, ◌∙◌, subst, inl, inr, ⊎_elim, arith}
 use Rattle.std.specs.List.{Contains}
-use Rattle.checker.proofs.ContainsFacts.{contains_first, contains_rest, contains_cases, contains_none}
+use Rattle.checker.proofs.ContainsFacts.{contains_first, contains_rest}
+use Rattle.checker.proofs.Ends.{successors_within}
 use Rattle.std.proofs.lemmas.Bool.{cases_lt}
 use Rattle.lattice.specs.Order.{Order, Laws}
 use Rattle.push.specs.declared.instruction.Instruction.{Instruction}
-use Rattle.push.specs.declared.instruction.Instruction.TheVariants.{Add, Goto, GotoF}
+use Rattle.push.specs.declared.instruction.Instruction.TheVariants.{Add}
 use Rattle.push.specs.declared.value.Value.{Value}
 use Rattle.push.specs.declared.value.Value.TheVariants.{Int, Flag}
 use Rattle.push.specs.Code.{fetch}
@@ -26,7 +27,6 @@ use Rattle.checker.specs.Rules.{ProgramWithClaims, exit}
 use Rattle.checker.specs.Flow.{NeverFaults}
 use Rattle.checker.specs.Leaving.{raised_to}
 use Rattle.checker.specs.WellClaimed.{Under, none, integer, boolean, Takes, at_exit, by_claim, WellClaimed}
-use Rattle.checker.proofs.SoundFacts as sound
 use Rattle.checker.proofs.SoundFacts.{Sound, Levels}
 use Rattle.checker.proofs.Leaves as leaving
 use Rattle.checker.proofs.Leaves.{Leaves, kept_leaves}
@@ -123,15 +123,6 @@ pub record Accepted (o : Order) (levels : List ℕ) (job : ProgramWithClaims) : 
   pub well : WellClaimed o levels job
   pub sound : (label : ℕ) (i : Instruction) → fetch job.code label ≡ Some i → Sound (exit job) i
   pub leveled : (label : ℕ) (c : Claimed) → label < exit job → job.claim label ≡ Some c → (c.surrounding < o.span) × Levels o c.stack
-
-only : (x y : ℕ) → Contains (y ∷ []) x → x ≡ y
-only x y c = ⊎_elim (λ (e : x ≡ y). e) (λ (k : Contains [] x). absurd (contains_none x k)) (contains_cases y [] x c)
-
-successors_within : (n l next : ℕ) (i : Instruction) → Sound n i → l < n → Contains (successors i l) next → next ≤ n
-successors_within n l next (Goto m) (sound.goto h) lt a = omega (arith, only next m a)
-successors_within n l next (GotoF m j) (sound.gotof h) lt a =
-    ⊎_elim (λ (e : next ≡ l + 1). omega arith) (λ (k : Contains (m ∷ []) next). omega (arith, only next m k)) (contains_cases (l + 1) (m ∷ []) next a)
-successors_within n l next i h lt a = omega (arith, only next (l + 1) a)
 
 module _ (o : Order) (laws : Laws o) (levels : List ℕ) (job : ProgramWithClaims) (acc : Accepted o levels job) where
   -- What a claimed label with an instruction leaves.

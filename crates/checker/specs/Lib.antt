@@ -1,8 +1,11 @@
 pub mod Faults
 pub mod Leaving
+pub mod Keeping
 pub mod Rules
 pub mod Region
 pub mod Verdict
+pub mod RegionList
+pub mod Surrounding
 pub mod Views
 pub mod WellClaimed
 pub mod Flow

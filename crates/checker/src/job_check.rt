@@ -1,3 +1,5 @@
+ghost use Rattle.checker.specs.RegionList.{LabelsWithin};
+
 use job::Job;
 use push::Program;
 
@@ -8,4 +10,6 @@ pub(crate) struct JobCheck<'a, L> {
     pub(crate) levels: &'a [u16],
     pub(crate) job: Job<'a>,
     pub(crate) program: &'a Program,
+    // So a region has room for its labels.
+    ghost labels_are_within: { LabelsWithin program.now },
 }

@@ -1,10 +1,11 @@
-ghost use Rattle.std.specs.Prelude.{◌≡◌, Some, length, map, slice_index, slice_index_or};
+ghost use Rattle.std.specs.Prelude.{◌≡◌, ◌+◌, ◌<◌, ◌≤◌, Some, length, map, slice_index, slice_index_or};
 ghost use Rattle.std.specs.Result.{result_err};
 ghost use Rattle.job.specs.declared.claim.Place.TheVariants.{IntegerAt};
 ghost use Rattle.job.specs.Views.{claim_says};
 ghost use Rattle.push.specs.Language.{kinds_after};
 ghost use Rattle.job.specs.Records.{kind as kind_of};
 ghost use Rattle.checker.specs.Leaving.{joined_one as joined_one_of, joined_two as joined_two_of, raised_to, level_at, fits_under as fits_under_of, all_fit_under};
+ghost use Rattle.checker.specs.Keeping.{pushed_by, kept as kept_of};
 ghost use Rattle.checker.specs.Rules.{lowered_variable as lowered_variable_of, takes as takes_of, first_refusing as first_refusing_of, rule_at, label_rule};
 
 use crate::fault::Rule;
@@ -90,47 +91,62 @@ impl<L: Lattice> LabelCheck<'_, L> {
 
     // How many places leave.
     fn depth(&self) -> u16
-        ensures { result ≡ length (leaves_of L.Lattice.order self.now) }
+        ensures value { result ≡ length (leaves_of L.Lattice.order self.now) }
+        ensures bound { result ≤ 8 }
     {
         u16::from(self.leaving.depth())
     }
 
-    // A place that leaves, the top being 0; an integer of level 0 below the bottom.
-    fn place(&self, place: u16) -> Place
+    // How many places the instruction pushes, and how many it pops.
+    fn pushed_and_popped(&self) -> (u16, u16)
+        ensures pushed { result.0 ≡ pushed_by self.now.instruction }
+        ensures popped { length (leaves_of L.Lattice.order self.now) + result.1
+            ≡ length (claimed_of self.now).stack + result.0 }
+        ensures bound { result.1 ≤ 2 }
+    {
+        match self.instruction {
+            Instruction::Load(_) | Instruction::Push(_) | Instruction::Copy => (1, 0),
+            Instruction::Add | Instruction::Sub | Instruction::Eq | Instruction::Less => (1, 2),
+            Instruction::Not => (1, 1),
+            Instruction::Goto(_) => (0, 0),
+            Instruction::Store(_) | Instruction::GotoF { .. } | Instruction::Drop => (0, 1),
+            Instruction::Swap => (2, 2),
+        }
+    }
+
+    // A place that the instruction pushes, the top being 0; an integer of level 0 where it pushes none.
+    fn pushed_place(&self, place: u16) -> Place
+        requires { place < pushed_by self.now.instruction }
         ensures { result ≡ slice_index_or (leaves_of L.Lattice.order self.now) place (IntegerAt 0) }
     {
-        if place >= self.depth() {
-            return Place::IntegerAt(0);
-        }
-        match (self.instruction, place) {
-            (Instruction::Load(variable), 0) => {
+        match self.instruction {
+            Instruction::Load(variable) => {
                 let level = self.variable_level(variable);
                 Place::IntegerAt(self.check.lattice.join(level, self.claim.surrounding))
             }
-            (Instruction::Push(_), 0) => Place::IntegerAt(self.claim.surrounding),
-            (Instruction::Add | Instruction::Sub, 0) => Place::IntegerAt(self.joined_two()),
-            (Instruction::Eq | Instruction::Less, 0) => Place::BooleanAt(self.joined_two()),
-            (Instruction::Not, 0) => Place::BooleanAt(self.joined_one()),
-            (Instruction::Copy, 0) | (Instruction::Swap, 1) => self.surrounded_place(0),
-            (Instruction::Swap, 0) => self.surrounded_place(1),
-            (Instruction::GotoF { .. }, _) => {
-                self.raised(self.level_at(0), self.claimed_place(place + 1))
-            }
-            (Instruction::Load(_) | Instruction::Push(_) | Instruction::Copy, _) => {
-                self.claimed_place(place - 1)
-            }
-            (Instruction::Not | Instruction::Swap | Instruction::Goto(_), _) => {
-                self.claimed_place(place)
-            }
-            (
-                Instruction::Store(_)
-                | Instruction::Add
-                | Instruction::Sub
-                | Instruction::Eq
-                | Instruction::Less
-                | Instruction::Drop,
-                _,
-            ) => self.claimed_place(place + 1),
+            Instruction::Push(_) => Place::IntegerAt(self.claim.surrounding),
+            Instruction::Add | Instruction::Sub => Place::IntegerAt(self.joined_two()),
+            Instruction::Eq | Instruction::Less => Place::BooleanAt(self.joined_two()),
+            Instruction::Not => Place::BooleanAt(self.joined_one()),
+            Instruction::Copy => self.surrounded_place(0),
+            Instruction::Swap => self.surrounded_place(1 - place),
+            Instruction::Store(_)
+            | Instruction::Goto(_)
+            | Instruction::GotoF { .. }
+            | Instruction::Drop => Place::IntegerAt(0),
+        }
+    }
+
+    // What becomes of a claimed place that the instruction keeps: a branch raises it by the level of what it pops.
+    fn kept(&self, place: Place) -> Place
+        ensures { result
+            ≡ kept_of (order_of L.Lattice.order self.now) (claimed_of self.now)
+            self.now.instruction place }
+    {
+        if let Instruction::GotoF { .. } = self.instruction {
+            self.raised(self.level_at(0), place)
+        } else {
+            place
         }
     }
 
@@ -142,6 +158,23 @@ impl<L: Lattice> LabelCheck<'_, L> {
             && self.check.lattice.at_most(leaving.level(), claimed.level())
     }
 
+    // A place that leaves, the top being 0, of the label's claim, where so many are pushed and so many popped.
+    fn place(&self, claim: Claim, place: u16, pushed: u16, popped: u16) -> Place
+        requires own_claim { claim ≡ self.now.claim }
+        requires within { place < length (leaves_of L.Lattice.order self.now) }
+        requires pushed { pushed ≡ pushed_by self.now.instruction }
+        requires popped { length (leaves_of L.Lattice.order self.now) + popped
+            ≡ length (claimed_of self.now).stack + pushed }
+        requires few { (length (leaves_of L.Lattice.order self.now) ≤ 8) × (popped ≤ 2) }
+        ensures { result ≡ slice_index_or (leaves_of L.Lattice.order self.now) place (IntegerAt 0) }
+    {
+        if place < pushed {
+            self.pushed_place(place)
+        } else {
+            self.kept(self.check.job.stack_place(claim, place + popped - pushed))
+        }
+    }
+
     // Whether all that leaves fits under a claimed stack.
     fn all_fit_under(&self, next: Claim) -> bool
         ensures { result
@@ -149,11 +182,20 @@ impl<L: Lattice> LabelCheck<'_, L> {
             (claim_says self.now.check.now.job next).stack }
     {
         let depth = self.depth();
-        depth == u16::from(next.depth)
-            && (0..depth).all(|place| self.fits_under(
-                self.place(place),
-                self.check.job.stack_place(next, place),
-            ))
+        if depth != u16::from(next.depth) {
+            return false;
+        }
+        // A copy, taken before the loop: its fields then stay in registers.
+        let claim = self.claim;
+        let (pushed, popped) = self.pushed_and_popped();
+        // Not by `all`: of its closure a proof does not know that the place is within the depth.
+        for place in 0..depth {
+            let left = self.place(claim, place, pushed, popped);
+            if !self.fits_under(left, self.check.job.stack_place(next, place)) {
+                return false;
+            }
+        }
+        true
     }
 
     // The variable into which a store would lower what it stores.

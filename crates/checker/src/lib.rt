@@ -9,7 +9,8 @@ mod branches;
 mod fault;
 mod job_check;
 mod label_check;
-mod marks;
+mod region;
+mod surrounding;
 mod verdict;
 
 pub use fault::{MountFault, Rule, mount_answer};

@@ -8,6 +8,7 @@ ghost use Rattle.checker.specs.Rules.{label_rule, exit};
 ghost use Rattle.checker.specs.Verdict.{instruction_fault, claim_record_fault, branch_rule, broken_rule, code_below, first_fault, decoded_code, verdict as verdict_of};
 ghost use Rattle.checker.specs.Leaving.{LeavesTheKindsAfter};
 ghost use Rattle.checker.specs.Region.{MarksAreTheRegion};
+ghost use Rattle.checker.specs.RegionList.{LabelsWithin};
 ghost use Rattle.checker.specs.WellClaimed.{Judged};
 ghost use Rattle.checker.specs.Flow.{AcceptedJobsNeverFault, AcceptedJobsKeepClosed};
 
@@ -25,6 +26,7 @@ fn decode(job: &Job) -> Result<Program, RecordFault>
         (sizes job.now).instructions }
     ensures program_is_what_the_records_say { IfOk result
         (λ p. p ≡ code_below job.now.bytes.now (sizes job.now) (sizes job.now).instructions) }
+    ensures labels_are_within { IfOk result (λ p. LabelsWithin p) }
 {
     let mut program = Program::empty();
     for label in 0..job.exit() {
@@ -71,8 +73,9 @@ impl<L: Lattice> JobCheck<'_, L> {
             ≡ first_below (branch_rule (L.Lattice.order self.now.lattice.now) (job_of self.now))
             (exit (job_of self.now)) }
     {
+        let surrounding = self.surrounding_levels();
         for label in 0..self.program.len() as u8 {
-            self.check_branch(label)?;
+            self.check_branch(&surrounding, label)?;
         }
         Ok(())
     }

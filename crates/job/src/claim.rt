@@ -6,9 +6,8 @@ ghost use Rattle.job.specs.Records.{claim_fault, like_a_claim, claim_in, place_i
 ghost use Rattle.job.specs.declared.claim.Place.TheVariants.{IntegerAt};
 ghost use Rattle.job.specs.Views.{sizes, claim_says, claimed};
 
-use crate::claim_record::ClaimRecord;
+use crate::claim_record::{ClaimRecord, head, kind_and_level};
 use crate::fault::RecordFault;
-use crate::part::{byte, two};
 use crate::reader::Job;
 use push::{Kind, StackKinds};
 
@@ -58,9 +57,8 @@ impl Place {
 fn place_in(record: &[u8], place: u16) -> Place
     ensures { result ≡ place_in «record».now place }
 {
-    let at = 4 + 3 * usize::from(place);
-    let level = two(record, at + 1);
-    match byte(record, at) {
+    let (kind, level) = kind_and_level(record, place);
+    match kind {
         0 => Place::IntegerAt(level),
         _ => Place::BooleanAt(level),
     }
@@ -97,11 +95,12 @@ impl Job<'_> {
             (λ c. c.record_place ≡ claim_place (sizes self.now) label) }
     {
         let (record_place, record) = self.claim_record(label);
-        match byte(record, 0) {
+        let (mark, depth, surrounding) = head(record);
+        match mark {
             0 => None,
             _ => Some(Claim {
-                depth: byte(record, 1),
-                surrounding: two(record, 2),
+                depth,
+                surrounding,
                 record_place,
             }),
         }

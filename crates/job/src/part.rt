@@ -1,23 +1,16 @@
-ghost use Rattle.std.specs.Prelude.{◌≡◌, take, drop, slice_index};
+ghost use Rattle.std.specs.Prelude.{◌≡◌, ◌+◌, ◌<◌, ◌^◌, take, drop, slice_index};
 ghost use Rattle.std.specs.Result.{result_err};
 ghost use Rattle.job.specs.Faults.{not_below, wrong_length};
 ghost use Rattle.job.specs.Fields.{two as two_of};
 
 use crate::fault::ReadFault;
 
-// The bytes from a place on, as far as there are bytes.
-pub(crate) fn tail<'a>(bytes: &'a [u8], at: usize) -> &'a [u8]
-    ensures { result.now ≡ drop at bytes.now }
-{
-    bytes.get(at..).unwrap_or(&[])
-}
-
 // So many bytes from a place on, as far as there are bytes.
 pub(crate) fn part<'a>(bytes: &'a [u8], at: usize, len: usize) -> &'a [u8]
     ensures { result.now ≡ take len (drop at bytes.now) }
 {
-    let rest = tail(bytes, at);
-    rest.get(..len).unwrap_or(rest)
+    let rest = &bytes[at.min(bytes.len())..];
+    &rest[..len.min(rest.len())]
 }
 
 // The byte at a place; 0 past the end.
@@ -29,10 +22,10 @@ pub(crate) fn byte(bytes: &[u8], at: usize) -> u8
 
 // A number of two bytes, lower byte first.
 pub(crate) fn two(bytes: &[u8], at: usize) -> u16
+    requires { at + 1 < 2 ^ 64 }
     ensures { result ≡ two_of bytes.now at }
 {
-    let rest = tail(bytes, at);
-    u16::from_le_bytes([byte(rest, 0), byte(rest, 1)])
+    u16::from_le_bytes([byte(bytes, at), byte(bytes, at + 1)])
 }
 
 // Sees that a number, found at a place, is from 0 to below a limit.

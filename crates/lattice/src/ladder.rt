@@ -31,16 +31,19 @@ impl Lattice for Ladder {
         u32::from(self.grades)
     }
 
+    // Two numbers are levels exactly if the larger is.
     fn at_most(&self, a: u16, b: u16) -> bool {
-        self.both_levels(a, b).is_some_and(|(a, b)| a <= b)
+        a <= b && self.is_level(b)
     }
 
     fn join(&self, a: u16, b: u16) -> u16 {
-        self.both_levels(a, b).map_or(0, |(a, b)| a.max(b))
+        let larger = a.max(b);
+        if self.is_level(larger) { larger } else { 0 }
     }
 
     fn meet(&self, a: u16, b: u16) -> u16 {
-        self.both_levels(a, b).map_or(0, |(a, b)| a.min(b))
+        let larger = a.max(b);
+        if self.is_level(larger) { a.min(b) } else { 0 }
     }
 
     fn lowest(&self) -> u16 {

@@ -1,9 +1,11 @@
-use Rattle.std.proofs.Common.{◌≡◌, ◌+◌, ◌<◌, Result, Ok, Err, IsOk, OnOk, [], ◌∷◌, ◌++◌, length, sym, ap, ◌∙◌, arith, length-append}
+use Rattle.std.proofs.Common.{◌≡◌, ◌+◌, ◌<◌, Result, Ok, Err, IsOk, OnOk, [], ◌∷◌, ◌++◌, length, sym, ap, ◌∙◌, subst, arith, length-append}
 use Rattle.std.specs.Result.{result_err}
 use Rattle.std.proofs.lemmas.Bool.{true≢false}
 use Rattle.job.specs.Views.{sizes}
-use Rattle.checker.specs.Verdict.{decoded_at, instruction_fault}
+use Rattle.checker.specs.RegionList.{LabelsWithin}
+use Rattle.checker.specs.Verdict.{decoded_at, instruction_fault, code_below}
 use Rattle.checker.proofs.DecodeFacts.{code_none, code_more}
+use Rattle.checker.proofs.Ends.{decoded_labels_within}
 use Rattle.checker.proofs.FirstFacts.{first_none, first_more, first_handed_up}
 use Rattle.checker.proofs.verdict.decode.Goals as goal
 
@@ -37,3 +39,13 @@ returns-in_err-instruction-clause-answers_the_first_fault c =
     first_handed_up (instruction_fault job.bytes.now (sizes job)) c.loop-label.label (sizes job).instructions c.in_err-instruction.field-0.0
     c.instruction.result c.from_residual.result c.loop-label.invariant.0 (ap result_err c.instruction.ensures.instruction_is_what_the_record_says)
     c.in_err-instruction.was c.from_residual.ensures.1 (omega (arith, c.loop-label-test.true, c.exit-label-end.ensures.is_the_number_of_instructions))
+
+pub returns-clause-labels_are_within : goal.returns-clause-labels_are_within
+returns-clause-labels_are_within c =
+    let bytes = c.args.job.now.bytes.now in
+    let s = sizes c.args.job.now in
+    let all : c.loop-label.label ≡ s.instructions =
+    omega (arith, c.loop-label-test.false, c.exit-label-end.ensures.is_the_number_of_instructions, c.loop-label.auto) in
+    let is : c.loop-label.program ≡ code_below bytes s s.instructions = c.loop-label.invariant.1 ∙ ap (code_below bytes s) all in
+    let long : length (code_below bytes s s.instructions) ≡ s.instructions = ap length (sym is) ∙ c.loop-label.invariant.2 ∙ all in
+    subst LabelsWithin (sym is) (decoded_labels_within bytes s long c.requires)

@@ -1,7 +1,7 @@
 use Rattle.std.proofs.Common.{◌≡◌, None}
 use Rattle.job.specs.First.{first_below}
 use Rattle.job.specs.Records.{place_fault}
-use Rattle.job.proofs.claim_record.ClaimRecord.check_fields.Given as goal
+use Rattle.job.proofs.claim_record.ClaimRecord.check_places.Given as goal
 
 abbrev pub invariant-loop-place : goal.invariant-loop-place
 invariant-loop-place l =
