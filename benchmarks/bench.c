@@ -1,6 +1,8 @@
-/* How long a step takes: the proved run, a C interpreter with the same checks, and one without checks.
+/* How long a step takes: the proved run, a C interpreter with the same checks, and one without checks. And how long a
+ * mount takes: the proved one, and the one in plain C of mount.c.
  * run.sh builds this with PLACE bytes before all code, since where code lies moves its speed. */
-#include <stdint.h>
+#include "mount.h"
+
 #include <stdio.h>
 #include <stdlib.h>
 #include <string.h>
@@ -14,10 +16,11 @@ __asm__(FILL(PLACE));
 uint32_t nextabur_mount(const uint8_t *job, size_t length);
 uint64_t nextabur_run(const uint8_t *job, size_t length, uint32_t budget);
 
-enum { LABELS = 128, PLACES = 8, VARIABLES = 32, LONGEST = 4356 };
-enum { LOAD = 1, STORE, PUSH, ADD, SUB, EQ, LESS, NOT, GOTO, GOTOF, COPY, SWAP, DROP, EXIT };
+/* The same of another edition, where run.sh is given one. */
+__attribute__((weak)) uint32_t before_mount(const uint8_t *job, size_t length);
+
+enum { EXIT = DROP + 1 }; /* an instruction of the unchecked interpreter alone */
 enum { GOING, HALTED, FAULTED };
-enum { INTEGER, BOOLEAN };
 
 static void die(const char *what, const char *name)
 {
@@ -26,12 +29,6 @@ static void die(const char *what, const char *name)
 }
 
 /* ---- A job: its instructions, and its bytes with claims. */
-
-typedef struct {
-    uint8_t op;
-    uint8_t junction;
-    int32_t operand;
-} Instruction;
 
 typedef struct {
     const char *name;
@@ -384,12 +381,11 @@ static void make_largest(Job *job)
 }
 
 /* The same size, almost all branches: again and again eight, which pop eight claimed booleans, and a goto. */
-static void make_most_branches(Job *job, uint32_t *branches)
+static void make_most_branches(Job *job)
 {
     Claim claims[LABELS];
     memset(claims, 0, sizeof claims);
     *job = (Job){.name = "most branches", .places = 8};
-    *branches = 0;
     add(job, GOTO, 0);
     claims[0].claimed = 1;
     while (job->n < LABELS) {
@@ -402,12 +398,34 @@ static void make_most_branches(Job *job, uint32_t *branches)
             add(job, GOTO, 0);
         } else {
             add(job, GOTOF, (int32_t)l + 1);
-            ++*branches;
         }
     }
     write_bytes(job, claims);
     if (nextabur_mount(job->bytes, job->length) != 0)
         die("not accepted", job->name);
+}
+
+/* The same size, with 96 branches, and all 128 labels in the region of each: seven booleans, and then again and again an
+ * eighth, eight branches and a goto to the head. There is a way from each label to each, and every junction is the exit. */
+static void make_longest_regions(Job *job)
+{
+    *job = (Job){.name = "longest regions", .places = 8};
+    add(job, PUSH, 0);
+    add(job, PUSH, 0);
+    add(job, EQ, 0);
+    for (int i = 1; i < 7; i++)
+        add(job, COPY, 0);
+    while (job->n < LABELS) {
+        uint32_t first = add(job, COPY, 0) + 1;
+        for (uint32_t l = first; l < first + 8; l++)
+            job->code[add(job, GOTOF, (int32_t)l + 1)].junction = LABELS;
+        if (job->n < LABELS) {
+            add(job, GOTO, 0);
+            lands_here(job, first);
+        }
+    }
+    job->code[LABELS - 1].operand = 0;
+    finish(job);
 }
 
 /* ---- The two C interpreters. */
@@ -653,6 +671,68 @@ static void must_halt(const Job *job)
         die("does not halt", job->name);
 }
 
+/* ---- The two mounts, as number × 65,536 + label. */
+
+enum { GRADES = 16, MOUNTED = 4 /* jobs whose mount is measured */, MOUNTS = 3 };
+
+static uint32_t mount_plain(const uint8_t *job, size_t length)
+{
+    static const uint16_t levels[VARIABLES]; /* all 0 */
+    Verdict verdict = plain_mount(job, length, GRADES, levels);
+    return verdict.number * 0x10000 + verdict.label;
+}
+
+static const struct {
+    const char *name;
+    uint32_t (*mount)(const uint8_t *job, size_t length);
+} mounts[MOUNTS] = {{"mount-proved", nextabur_mount}, {"mount-plain", mount_plain}, {"mount-before", before_mount}};
+
+/* The answer is the number. */
+static uint32_t must_mount_alike(const uint8_t *bytes, size_t length, const char *name)
+{
+    uint32_t proved = nextabur_mount(bytes, length);
+    for (int m = 0; m < MOUNTS && mounts[m].mount; m++)
+        if (mounts[m].mount(bytes, length) != proved)
+            die("the mounts do not agree", name);
+    return proved >> 16;
+}
+
+static uint8_t any_byte(void)
+{
+    static uint32_t state = 2463534242;
+    state ^= state << 13;
+    state ^= state >> 17;
+    state ^= state << 5;
+    return (uint8_t)(state >> 24);
+}
+
+/* A job with each byte replaced in turn, and with bytes cut off or added. Each number that comes is noted. */
+static void must_mount_broken_alike(const Job *job, uint8_t *numbers)
+{
+    uint8_t bytes[LONGEST + 4] = {0};
+    memcpy(bytes, job->bytes, job->length);
+    for (size_t length = 0; length <= job->length + 4; length++)
+        numbers[must_mount_alike(bytes, length, job->name)] = 1;
+    for (size_t at = 0; at < job->length; at++) {
+        uint8_t right = bytes[at];
+        uint8_t others[] = {right + 1, right - 1, 0, 1, 255, any_byte(), any_byte() % 16, any_byte() % 16};
+        for (size_t k = 0; k < sizeof others; k++) {
+            bytes[at] = others[k];
+            if (others[k] != right)
+                numbers[must_mount_alike(bytes, job->length, job->name)] = 1;
+        }
+        bytes[at] = right;
+    }
+}
+
+/* The numbers of a mount are 0, and 4 to 15. */
+static void must_have_come(const uint8_t *numbers)
+{
+    for (int number = 0; number < 16; number++)
+        if (!numbers[number] && (number == 0 || number > 3))
+            die("no mount answers one of the numbers", "broken jobs");
+}
+
 static double seconds(void)
 {
     struct timespec t;
@@ -679,59 +759,98 @@ static void measure(const Job *job, uint32_t budget, int times)
     printf("step|%s|%u|%.3f|%.3f|%.3f\n", job->name, job->n, best[PROVED] * ns, best[CHECKED] * ns, best[UNCHECKED] * ns);
 }
 
-static void measure_mount(const Job *job, uint32_t branches, int calls, int times)
+static uint32_t branches(const Job *job)
 {
-    double best = 0;
+    uint32_t count = 0;
+    for (uint32_t l = 0; l < job->n; l++)
+        count += job->code[l].op == GOTOF;
+    return count;
+}
+
+static void measure_mount(const Job *job, int calls, int times)
+{
+    double best[MOUNTS] = {0};
     for (int time = 0; time < times; time++) {
-        uint32_t refused = 0;
-        double begin = seconds();
-        for (int call = 0; call < calls; call++)
-            refused |= nextabur_mount(job->bytes, job->length);
-        double spent = seconds() - begin;
-        if (time == 0 || spent < best)
-            best = spent;
-        if (refused)
-            die("not accepted", job->name);
+        for (int m = 0; m < MOUNTS && mounts[m].mount; m++) {
+            uint32_t refused = 0;
+            double begin = seconds();
+            for (int call = 0; call < calls; call++)
+                refused |= mounts[m].mount(job->bytes, job->length);
+            double spent = seconds() - begin;
+            if (time == 0 || spent < best[m])
+                best[m] = spent;
+            if (refused)
+                die("not accepted", job->name);
+        }
     }
-    printf("mount|%u|%zu|%u|%.1f\n", job->n, job->length, branches, best / calls * 1e6);
+    double us = 1e6 / calls;
+    printf("mount|%s|%u|%zu|%u|%.3f|%.3f|%.3f\n", job->name, job->n, job->length, branches(job), best[0] * us,
+           best[1] * us, best[2] * us);
+}
+
+/* ENGINE JOB BUDGET is one run, and MOUNT JOB TIMES so many mounts, for a count of their machine instructions. */
+static void run_or_mount(char **argv, const Job *jobs, const Job *const *mounted)
+{
+    int job = atoi(argv[2]);
+    uint32_t times = (uint32_t)strtoul(argv[3], 0, 10);
+    for (int engine = 0; engine < ENGINES; engine++)
+        if (strcmp(argv[1], engine_names[engine]) == 0)
+            printf("%llu\n", (unsigned long long)run(engine, &jobs[job % JOBS], times));
+    for (int m = 0; m < MOUNTS && mounts[m].mount; m++) {
+        if (strcmp(argv[1], mounts[m].name) != 0)
+            continue;
+        uint32_t refused = 0;
+        for (uint32_t time = 0; time < times; time++)
+            refused |= mounts[m].mount(mounted[job % MOUNTED]->bytes, mounted[job % MOUNTED]->length);
+        printf("%u\n", refused);
+    }
+}
+
+/* What is measured answers alike first, on these jobs and on some more. */
+static void must_be_right(const Job *jobs, const Job *const *mounted)
+{
+    static Job short_loop, ends, shapes;
+    const Job *const tested[] = {&jobs[0], &jobs[1], &jobs[2], &jobs[3], &short_loop, &ends, &shapes, mounted[0],
+                                 mounted[1], mounted[2]};
+    size_t count = sizeof tested / sizeof tested[0];
+    uint8_t numbers[16] = {0};
+    make_counting_loop(&short_loop, "short loop", 20);
+    make_ends(&ends);
+    make_shapes(&shapes);
+    must_halt(&short_loop);
+    must_halt(&ends);
+    must_halt(&shapes);
+    for (uint32_t budget = 0; budget < 2000; budget++)
+        for (size_t job = 0; job < count; job++)
+            must_agree(tested[job], budget);
+    for (int job = 0; job < MOUNTED; job++)
+        must_mount_alike(mounted[job]->bytes, mounted[job]->length, mounted[job]->name);
+    for (size_t job = 0; job < count; job++)
+        must_mount_broken_alike(tested[job], numbers);
+    must_have_come(numbers);
 }
 
 int main(int argc, char **argv)
 {
-    static Job jobs[JOBS], short_loop, ends, shapes, largest, most;
-    uint32_t most_branches;
+    static Job jobs[JOBS], largest, most, longest;
+    const Job *const mounted[MOUNTED] = {&largest, &most, &longest, &jobs[2]};
     make_counting_loop(&jobs[0], "counting loop", 2000000000);
     make_nest(&jobs[1]);
     make_straight(&jobs[2]);
     make_copies(&jobs[3]);
+    make_largest(&largest);
+    make_most_branches(&most);
+    make_longest_regions(&longest);
 
-    if (argc == 4) { /* ENGINE JOB BUDGET: one run, for a count of its machine instructions */
-        for (int engine = 0; engine < ENGINES; engine++)
-            if (strcmp(argv[1], engine_names[engine]) == 0)
-                printf("%llu\n", (unsigned long long)run(engine, &jobs[atoi(argv[2]) % JOBS], (uint32_t)strtoul(argv[3], 0, 10)));
+    if (argc == 4) {
+        run_or_mount(argv, jobs, mounted);
         return 0;
     }
 
-    make_counting_loop(&short_loop, "short loop", 20);
-    make_ends(&ends);
-    make_shapes(&shapes);
-    make_largest(&largest);
-    make_most_branches(&most, &most_branches);
-    must_halt(&short_loop);
-    must_halt(&ends);
-    must_halt(&shapes);
-    for (uint32_t budget = 0; budget < 2000; budget++) {
-        for (int job = 0; job < JOBS; job++)
-            must_agree(&jobs[job], budget);
-        must_agree(&short_loop, budget);
-        must_agree(&ends, budget);
-        must_agree(&shapes, budget);
-        must_agree(&largest, budget);
-    }
-
+    must_be_right(jobs, mounted);
     for (int job = 0; job < JOBS; job++)
         measure(&jobs[job], 100000000, 3);
-    measure_mount(&largest, 16, 200, 3);
-    measure_mount(&most, most_branches, 200, 3);
+    for (int job = 0; job < MOUNTED; job++)
+        measure_mount(mounted[job], 200, 5);
     return 0;
 }
