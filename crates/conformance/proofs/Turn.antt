@@ -3,6 +3,7 @@ use Rattle.std.proofs.Common.{◌≡◌, ℕ, suc, ◌+◌, ◌^◌, ◌<◌, Bo
 use Rattle.std.specs.List.{count_by}
 use Rattle.std.specs.Option.{option_or}
 use Rattle.std.proofs.lemmas.Bool.{cond-true, cond-false}
+use Rattle.std.proofs.lemmas.List.Sums.{count_by-le-length}
 use Rattle.conformance.specs.Table.{Trial, next_case, cases}
 use Rattle.conformance.specs.Findings.{Findings, agrees, first_differing, findings_of, with_case}
 use Rattle.conformance.proofs.Agreement.{count_more}
@@ -64,8 +65,9 @@ module _ (text : List ℕ → List ℕ) where
       let here : trial ∷ cases rest ≡ cases t = (λ i. was.1 i ∷ cases (was.2 i)) ∙ sym (cases_more t was.0) in
       ap (λ n. onward n (cases rest)) counted ∙ onward_noted s trial (cases rest) (agrees text trial) refl ∙ ap (onward s) here ∙ so_far
 
-  -- A count has room for one case more.
-  pub room : (s : Findings) (t rest : List ℕ) → length t < 2 ^ 64 → onward s (cases rest) ≡ findings_of text (cases t) → s.run + 1 < 2 ^ 64
+  -- A count has room for one case more, and one that agrees.
+  pub room : (s : Findings) (t rest : List ℕ) → length t < 2 ^ 64 → onward s (cases rest) ≡ findings_of text (cases t) → (s.run + 1 < 2 ^ 64) × (s.agreed + 1 < 2 ^ 64)
   room s t rest long so_far =
       let run : s.run + length (cases rest) ≡ length (cases t) = ap (λ f. f.run) so_far in
-      omega (arith, cases_few t)
+      let agreed : s.agreed + count_by (agrees text) (cases rest) ≡ count_by (agrees text) (cases t) = ap (λ f. f.agreed) so_far in
+      (omega (arith, cases_few t), omega (arith, cases_few t, count_by-le-length (agrees text) (cases t)))

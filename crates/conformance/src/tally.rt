@@ -1,5 +1,3 @@
-ghost use Rattle.std.specs.Prelude.{◌≤◌};
-
 use crate::question::Question;
 use crate::table::{Case, next_case};
 use std::alloc::{AllocError, Global};
@@ -15,11 +13,10 @@ pub struct Tally<'a> {
     pub differs: Option<(usize, Case<'a>)>,
     /// How many bytes stand after the last whole case; any show a damaged table.
     pub left: usize,
-    ghost agreed_were_run: { agreed ≤ run },
 }
 
 impl<'a> Tally<'a> {
-    ghost use Rattle.std.specs.Prelude.{◌≡◌, ◌+◌, ◌^◌, ◌<◌, length, IfOk, OnOk};
+    ghost use Rattle.std.specs.Prelude.{◌≡◌, ◌+◌, ◌^◌, ◌<◌, ◌≤◌, length, IfOk, OnOk};
     ghost use Rattle.conformance.specs.Table.{cases, left_over};
     ghost use Rattle.conformance.specs.Findings.{agrees, findings_of, with_case};
     ghost use Rattle.conformance.specs.Summary.{is_clean as is_clean_of};
@@ -27,7 +24,8 @@ impl<'a> Tally<'a> {
 
     // Runs one case more.
     fn note(&mut self, heap: Global, question: Question, case: Case<'a>) -> Result<(), AllocError>
-        requires { self.old.run + 1 < 2 ^ 64 }
+        requires room_for_one_more_run { self.old.run + 1 < 2 ^ 64 }
+        requires room_for_one_more_agreed { self.old.agreed + 1 < 2 ^ 64 }
         ensures { OnOk result (findings_in self.new
             ≡ with_case (findings_in self.old) (case_bytes case.entry)
             (agrees (answer_to question) (case_bytes case.entry))) }
@@ -47,6 +45,7 @@ impl<'a> Tally<'a> {
         ensures all_cases_are_run { IfOk result (λ t.
             findings_in t ≡ findings_of (answer_to question) (cases table.now)) }
         ensures left_is_past_the_cases { IfOk result (λ t. t.left ≡ length (left_over table.now)) }
+        ensures agreed_were_run { IfOk result (λ t. t.agreed ≤ t.run) }
     {
         let mut tally = Tally {
             run: 0,
