@@ -59,7 +59,7 @@ module _ (o : Order) (levels : List ℕ) (job : ProgramWithClaims) (label : ℕ)
   label_named _ _ _ (at (successor {next = next} fits up first)) =
       (Successor label next, rw ((decides_fits c i).1 fits, not_lowered o levels c i up, is_refused o levels job label c i next first), refl)
 
-  label_judged : Judges of_rule (rule_at o levels job label c i) (LabelKept o levels job label c i) (At label (LabelBreaks o levels job label c i))
+  pub label_judged : Judges of_rule (rule_at o levels job label c i) (LabelKept o levels job label c i) (At label (LabelBreaks o levels job label c i))
   label_judged =
       record {
         outcome = label_outcome _ _ _ refl refl refl;
@@ -79,7 +79,7 @@ module _ (o : Order) (job : ProgramWithClaims) (few : exit job ≤ 128) (label :
   cannot_break i h _ _ _ (at (exit_inside f)) = f (keeps i h).avoids
   cannot_break i h _ _ _ (at (too_low {m = m} {j = j} k e low)) = h m j e
 
-  branch_judged : (i : Instruction) → Judges of_rule (branch_at o job label c i) (BranchKept o job label c i) (branch_breaks i)
+  pub branch_judged : (i : Instruction) → Judges of_rule (branch_at o job label c i) (BranchKept o job label c i) (branch_breaks i)
   branch_judged (GotoF t j) =
       record {
         outcome = outcome _ _ refl refl;
@@ -247,7 +247,7 @@ opened_few : (bytes : List ℕ) (s : Sizes) → opening bytes ≡ Ok s → s.ins
 opened_few (n0 ∷ n1 ∷ d0 ∷ d1 ∷ rest) s e = sized_few (n0 + n1 * 256) (d0 + d1 * 256) (4 + length rest) s e
 opened_few _ s e = cc
 
-field_is_some : (field : Field) → field_number field ≡ 0 → ⊥
+pub field_is_some : (field : Field) → field_number field ≡ 0 → ⊥
 field_is_some Opening e = omega arith
 field_is_some Instructions e = omega arith
 field_is_some Places e = omega arith
@@ -255,7 +255,7 @@ field_is_some Length e = omega arith
 field_is_some (of_instruction _ _) e = omega arith
 field_is_some (of_claim _ _) e = omega arith
 
-rule_is_some : (rule : Rule) → rule_number rule ≡ 0 → ⊥
+pub rule_is_some : (rule : Rule) → rule_number rule ≡ 0 → ⊥
 rule_is_some Entry e = omega arith
 rule_is_some (Stack _) e = omega arith
 rule_is_some (BrokenStore _ _) e = omega arith

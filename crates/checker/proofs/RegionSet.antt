@@ -30,9 +30,9 @@ set_only (b ∷ m) (suc x) zero h = inr h
 set_only (b ∷ m) (suc x) (suc l) h = ⊎_elim (λ (e : l ≡ x). inl (ap suc e)) (λ (k : Marked m l). inr k) (set_only m x l h)
 
 -- Marks that another table keeps.
-record Kept (m m' : List Bool) : Type 0 where
-  long : length m ≡ length m'
-  marks : (l : ℕ) → Marked m l → Marked m' l
+pub record Kept (m m' : List Bool) : Type 0 where
+  pub long : length m ≡ length m'
+  pub marks : (l : ℕ) → Marked m l → Marked m' l
 
 kept_self : (m : List Bool) → Kept m m
 kept_self m = record { long = refl; marks = λ l h. h }

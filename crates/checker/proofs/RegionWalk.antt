@@ -52,7 +52,7 @@ module _ (o : Order) (w : ℕ) where
   end_pop (kept (boolean h u)) = under (kept u)
   end_pop (under e) = under (end_pop e)
 
-  keeps_pop : {p : Place} {x : Value} {ps qs : List Place} {s t : List Value} → Keeps ps s (p ∷ qs) (x ∷ t) → Keeps ps s qs t
+  pub keeps_pop : {p : Place} {x : Value} {ps qs : List Place} {s t : List Value} → Keeps ps s (p ∷ qs) (x ∷ t) → Keeps ps s qs t
   keeps_pop (low e) = low (end_pop e)
   keeps_pop (above h k) = k
 
@@ -75,7 +75,7 @@ module _ (o : Order) (w : ℕ) where
     end_under v (kept u) = kept (under_then u v)
     end_under v (under e) = under (end_under v e)
 
-    keeps_under : {ps qs rs : List Place} {s t : List Value} → Under o qs rs → Keeps ps s qs t → Keeps ps s rs t
+    pub keeps_under : {ps qs rs : List Place} {s t : List Value} → Under o qs rs → Keeps ps s qs t → Keeps ps s rs t
     keeps_under v (low e) = low (end_under v e)
     keeps_under (integer {a = a} {b = b} h v) (above high k) = above (λ l. high (laws.transitive a b w h l)) (keeps_under v k)
     keeps_under (boolean {a = a} {b = b} h v) (above high k) = above (λ l. high (laws.transitive a b w h l)) (keeps_under v k)
@@ -96,15 +96,15 @@ module _ (o : Order) (w : ℕ) where
     module _ (levels : List ℕ) (graded : LevelsOfVariables o levels) (code : List Instruction) (p l : ℕ) (hp : p < o.span)
         (closed : o.at_most p w ≡ true → ⊥) where
       -- One step at a label that is surrounded by a closed level.
-      record Hidden (i : Instruction) (ps : List Place) (s : List Value) (qs : List Place) (t : List Value) (vs : List ℤ) : Type 0 where
-        next : ℕ
-        stack : List Value
-        values : List ℤ
-        by_rule : code ⊢ at l t vs ⟶ at next stack values
-        among : Contains (successors i l) next
-        fits : Fits qs stack
-        keeps : Keeps ps s qs stack
-        unchanged : SameWhenOpen o levels w vs values
+      pub record Hidden (i : Instruction) (ps : List Place) (s : List Value) (qs : List Place) (t : List Value) (vs : List ℤ) : Type 0 where
+        pub next : ℕ
+        pub stack : List Value
+        pub values : List ℤ
+        pub by_rule : code ⊢ at l t vs ⟶ at next stack values
+        pub among : Contains (successors i l) next
+        pub fits : Fits qs stack
+        pub keeps : Keeps ps s qs stack
+        pub unchanged : SameWhenOpen o levels w vs values
 
       hidden : {i : Instruction} {ps : List Place} {s : List Value} {qs : List Place} {t : List Value} {vs : List ℤ} {next : ℕ} {values : List ℤ} →
           (stack : List Value) → code ⊢ at l t vs ⟶ at next stack values → Contains (successors i l) next →
@@ -137,7 +137,7 @@ module _ (o : Order) (w : ℕ) where
           subst (λ us. SameWhenOpen o levels w us (set vs v x)) (set-get_or vs v (pos 0))
           (written v (get_or vs v (pos 0)) x vs vs small high (same_here vs sized))
 
-      hidden_step : {i : Instruction} {ps qs rs : List Place} {s t : List Value} → fetch code l ≡ Some i → Leaves o levels p i qs rs → Levels o qs →
+      pub hidden_step : {i : Instruction} {ps qs rs : List Place} {s t : List Value} → fetch code l ≡ Some i → Leaves o levels p i qs rs → Levels o qs →
           (vs : List ℤ) → length vs ≡ 32 → Fits qs t → Keeps ps s qs t → Hidden i ps s rs t vs
       hidden_step {t = t} at_l (leaving.load {v = v} small room) ls vs sized f k =
           hidden (Int (get_or vs v (pos 0)) ∷ t) (rule.load at_l small (omega (arith, fits_length f))) (contains_first (l + 1) []) (fits int f)

@@ -64,13 +64,13 @@ fits_under (integer h u) (fits int f) = fits int (fits_under u f)
 fits_under (boolean h u) (fits flag f) = fits flag (fits_under u f)
 
 -- One step from a label: by a rule, to a successor, with a stack that fits what leaves.
-record Goes (code : List Instruction) (i : Instruction) (l : ℕ) (s : List Value) (vs : List ℤ) (qs : List Place) : Type 0 where
-  next : ℕ
-  stack : List Value
-  values : List ℤ
-  by_rule : code ⊢ at l s vs ⟶ at next stack values
-  among : Contains (successors i l) next
-  fits : Fits qs stack
+pub record Goes (code : List Instruction) (i : Instruction) (l : ℕ) (s : List Value) (vs : List ℤ) (qs : List Place) : Type 0 where
+  pub next : ℕ
+  pub stack : List Value
+  pub values : List ℤ
+  pub by_rule : code ⊢ at l s vs ⟶ at next stack values
+  pub among : Contains (successors i l) next
+  pub fits : Fits qs stack
 
 pub either : (l m : ℕ) (b : Bool) → Contains ((l + 1) ∷ m ∷ []) (cond b (l + 1) m)
 either l m true = contains_first (l + 1) (m ∷ [])
@@ -89,7 +89,7 @@ module _ (o : Order) (levels : List ℕ) (code : List Instruction) (p l : ℕ) w
         fits = f;
       }
 
-  goes : {i : Instruction} {ps qs : List Place} → fetch code l ≡ Some i → Leaves o levels p i ps qs → {s : List Value} (vs : List ℤ) → Fits ps s →
+  pub goes : {i : Instruction} {ps qs : List Place} → fetch code l ≡ Some i → Leaves o levels p i ps qs → {s : List Value} (vs : List ℤ) → Fits ps s →
       Goes code i l s vs qs
   goes at_l (leaving.load {v = v} {ps = ps} small room) {s} vs f =
       steps_to (Int (get_or vs v (pos 0)) ∷ s) (rule.load at_l small (omega (arith, fits_length f))) (contains_first (l + 1) []) (fits int f)
@@ -130,7 +130,7 @@ module _ (o : Order) (laws : Laws o) (levels : List ℕ) (job : ProgramWithClaim
     pub places : List Place
     pub left : Leaves o levels c.surrounding i c.stack places
     pub taken : (next : ℕ) → Contains (successors i l) next → Takes o job places next
-    within : (next : ℕ) → Contains (successors i l) next → next ≤ exit job
+    pub within : (next : ℕ) → Contains (successors i l) next → next ≤ exit job
 
   pub at_label : (l : ℕ) (c : Claimed) (i : Instruction) → l < exit job → job.claim l ≡ Some c → fetch job.code l ≡ Some i → AtLabel l c i
   at_label l c i lt has at_l =
@@ -144,7 +144,7 @@ module _ (o : Order) (laws : Laws o) (levels : List ℕ) (job : ProgramWithClaim
       }
 
   -- A machine whose stack fits the claim of its label, or that is at the exit.
-  data Typed : Machine → Type 0 where
+  pub data Typed : Machine → Type 0 where
     typed_exit : {l : ℕ} {s : List Value} {vs : List ℤ} → l ≡ exit job → Typed (at l s vs)
     typed_claim : {l : ℕ} {s : List Value} {vs : List ℤ} {c : Claimed} → l < exit job → job.claim l ≡ Some c → Fits c.stack s → Typed (at l s vs)
 
@@ -155,7 +155,7 @@ module _ (o : Order) (laws : Laws o) (levels : List ℕ) (job : ProgramWithClaim
   some_instruction : (l : ℕ) → l < exit job → (i : Instruction) × (fetch job.code l ≡ Some i)
   some_instruction l lt = (get_or job.code l Add, slice_get-get_or job.code l Add lt)
 
-  typed_goes : (m : Machine) → Typed m → (label_of m ≡ exit job) ⊎ ((n : Machine) × (job.code ⊢ m ⟶ n) × Typed n)
+  pub typed_goes : (m : Machine) → Typed m → (label_of m ≡ exit job) ⊎ ((n : Machine) × (job.code ⊢ m ⟶ n) × Typed n)
   typed_goes (at l s vs) (typed_exit e) = inl e
   typed_goes (at l s vs) (typed_claim {c = c} lt has f) =
       let some = some_instruction l lt in
@@ -163,7 +163,7 @@ module _ (o : Order) (laws : Laws o) (levels : List ℕ) (job : ProgramWithClaim
       let step = goes o levels job.code c.surrounding l some.1 here.left vs f in
       inr (at step.next step.stack step.values, step.by_rule, arrives (here.within step.next step.among) (here.taken step.next step.among) step.fits)
 
-  stays_typed : {k : ℕ} {m n : Machine} → Steps job.code k m n → Typed m → Typed n
+  pub stays_typed : {k : ℕ} {m n : Machine} → Steps job.code k m n → Typed m → Typed n
   stays_typed steps.none t = t
   stays_typed {m = m} (steps.more {n = n} r rest) t =
       stays_typed rest (⊎_elim (λ e. absurd (at_the_exit m n r e)) (λ g. subst Typed (one_way job.code m g.0 n g.1 r) g.2) (typed_goes m t))

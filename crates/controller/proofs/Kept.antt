@@ -52,7 +52,7 @@ rule_keeps_length : {code : List Instruction} {m n : Machine} → code ⊢ m ⟶
 rule_keeps_length (rule.store {v = v} {t = t} {vs = vs} a b) = length-set vs v t
 rule_keeps_length _ = refl
 
-steps_keep_length : {code : List Instruction} {k : ℕ} {m n : Machine} → Steps code k m n → length (values_of n) ≡ length (values_of m)
+pub steps_keep_length : {code : List Instruction} {k : ℕ} {m n : Machine} → Steps code k m n → length (values_of n) ≡ length (values_of m)
 steps_keep_length runs.none = refl
 steps_keep_length (runs.more r rest) = steps_keep_length rest ∙ rule_keeps_length r
 
@@ -61,20 +61,20 @@ steps_then {k = k} runs.none after = (k, after)
 steps_then (runs.more r rest) after = let more = steps_then rest after in (more.0 + 1, runs.more r more.1)
 
 -- A run under way has not faulted, and an advance keeps it so.
-no_fault : (code : List Instruction) (values : List ℤ) (r : RunState) → NeverFaults code → UnderWay code values r → r.status ≡ Faulted → ⊥
+pub no_fault : (code : List Instruction) (values : List ℤ) (r : RunState) → NeverFaults code → UnderWay code values r → r.status ≡ Faulted → ⊥
 no_fault code values r never way faulted =
     ⊎_elim
     (λ e. true≢false (sym (eq-eqb (label_of r.machine) (length code) e) ∙ sym way.honest.halted_at_the_exit ∙ ap is_halted faulted))
     (λ next. way.honest.faulted_without_a_rule faulted next.0 next.1)
     (never values way.count r.machine way.reached)
 
-goes_on : (code : List Instruction) (values : List ℤ) (r : RunState) (budget : ℕ) → UnderWay code values r → UnderWay code values (run code budget r).1
+pub goes_on : (code : List Instruction) (values : List ℤ) (r : RunState) (budget : ℕ) → UnderWay code values r → UnderWay code values (run code budget r).1
 goes_on code values r budget way =
     let advanced = run_advances code budget r in
     let all = steps_then way.reached advanced.machine_steps in
     record { count = all.0; reached = all.1; honest = advanced.status_stays_true way.honest }
 
-starts_so : (code : List Instruction) (values : List ℤ) → UnderWay code values (begun code values)
+pub starts_so : (code : List Instruction) (values : List ℤ) → UnderWay code values (begun code values)
 starts_so code values = record { count = 0; reached = runs.none; honest = new_runs_are_true code values }
 
 -- Where there are no levels nothing is open, so only the number of values counts.
@@ -86,7 +86,7 @@ none_open o laws levels program empty w vs ws alike j k s t vs' ws' left right =
       agree = λ v hv low. let some = (laws.only_levels (get_or levels v 0) w low).0 in absurd (omega arith);
     }
 
-accepted_is_safe :
+pub accepted_is_safe :
     (o : Order) → Laws o → (levels bytes : List ℕ) → ThirtyTwoLevels o levels → first_fault o levels bytes ≡ None →
     Safe o levels (decoded_code bytes (opening bytes))
 accepted_is_safe o laws levels bytes g is =
@@ -108,7 +108,7 @@ mounted_is_safe o levels bytes program laws g is same =
 nothing_runs : {m n : Machine} → [] ⊢ m ⟶ n → ⊥
 nothing_runs {m = at l s vs} {n = n} r = let below = rule_within [] l s vs n r in absurd (omega arith)
 
-nothing_is_safe : (o : Order) (levels : List ℕ) → Safe o levels []
+pub nothing_is_safe : (o : Order) (levels : List ℕ) → Safe o levels []
 nothing_is_safe o levels = record { never_faults = stays; keeps_closed = closed }
   where
     stays : NeverFaults []

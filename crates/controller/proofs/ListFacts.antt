@@ -22,15 +22,15 @@ module _ (position : ℕ) (s : State) (calls : List Call) (done total : List Ans
         transcript_from position s (drop position calls) ≡ rest_of position (drop (position + 1) calls) out
     next_is out e = ap (transcript_from position s) (drop_more calls position d some) ∙ ap (rest_of position (drop (position + 1) calls)) e
 
-    one_answered : (answer : Answer) (next : State) → allowed answer next ≡ outcome s (get_or calls position d) →
+    pub one_answered : (answer : Answer) (next : State) → allowed answer next ≡ outcome s (get_or calls position d) →
         (done ++ (answer ∷ [])) ++ transcript_from (position + 1) next (drop (position + 1) calls) ≡ total
     one_answered answer next e =
         append_assoc done (answer ∷ []) _ ∙ sym (ap (λ rest. done ++ rest) (next_is (allowed answer next) (sym e))) ∙ so_far
 
-    one_disallowed : disallowed ≡ outcome s (get_or calls position d) → done ++ (not_allowed position ∷ []) ≡ total
+    pub one_disallowed : disallowed ≡ outcome s (get_or calls position d) → done ++ (not_allowed position ∷ []) ≡ total
     one_disallowed e = sym (ap (λ rest. done ++ rest) (next_is disallowed (sym e))) ∙ so_far
 
-  all_answered : length calls ≤ position → done ≡ total
+  pub all_answered : length calls ≤ position → done ≡ total
   all_answered h = sym (append-nil done) ∙ ap (λ rest. done ++ rest) (ap (transcript_from position s) (sym (drop_all position calls h))) ∙ so_far
 
 -- The same of the code's calls, answers and states.

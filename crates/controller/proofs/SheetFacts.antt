@@ -15,7 +15,7 @@ module _ (o : Order) (levels : List ℕ) (values : List ℤ) (observer : ℕ) wh
   unfolding open_below
   open_none = refl
 
-  open_more : (n : ℕ) → open_below o levels observer (n + 1) ≡ open_below o levels observer n + cond (is_open o levels observer n) 1 0
+  pub open_more : (n : ℕ) → open_below o levels observer (n + 1) ≡ open_below o levels observer n + cond (is_open o levels observer n) 1 0
   unfolding open_below
   open_more n = ap (open_below o levels observer) (add-one n)
 
@@ -32,7 +32,7 @@ module _ (o : Order) (levels : List ℕ) (values : List ℤ) (observer : ℕ) wh
   unfolding lines_below
   lines_none = refl
 
-  lines_more : (n : ℕ) →
+  pub lines_more : (n : ℕ) →
       lines_below o levels values observer (n + 1)
       ≡ lines_below o levels values observer n ++ cond (is_open o levels observer n) (line n (get_or values n (pos 0))) []
   unfolding lines_below
