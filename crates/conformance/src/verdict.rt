@@ -7,7 +7,7 @@ ghost use Rattle.conformance.specs.Views.{answer_to, difference, findings_in};
 use crate::question::Question;
 use crate::table::Case;
 use crate::tally::Tally;
-use std::alloc::Global;
+use std::alloc::{AllocError, Global};
 use std::io;
 use std::io::Write;
 
@@ -78,7 +78,7 @@ fn write_summary(summary: &mut Vec<u8>, question: Question, tally: &Tally) -> io
 }
 
 // The verdict on a table where this is asked of its cases.
-fn verdict_on(heap: Global, question: Question, table: &[u8]) -> io::Result<Verdict>
+fn verdict_on(heap: Global, question: Question, table: &[u8]) -> Result<Verdict, AllocError>
     ensures passed_where_the_table_passes { IfOk result (λ v.
         v.passed ≡ passes_by (answer_to question) table.now) }
     ensures text_is_the_summary { IfOk result (λ v.
@@ -86,7 +86,8 @@ fn verdict_on(heap: Global, question: Question, table: &[u8]) -> io::Result<Verd
 {
     let tally = Tally::count(heap, question, table)?;
     let mut text = Vec::new(heap);
-    write_summary(&mut text, question, &tally)?;
+    // What is written to memory fails only where memory is not found.
+    write_summary(&mut text, question, &tally).map_err(|_| AllocError)?;
     Ok(Verdict {
         passed: tally.is_clean(),
         text,
@@ -96,7 +97,7 @@ fn verdict_on(heap: Global, question: Question, table: &[u8]) -> io::Result<Verd
 /// The verdict on a table of reports: every case is run, and the first that differs is shown. An error is want of
 /// memory alone.
 #[tactic(auto, using(crate::proofs::Agreement::passes_conforms))]
-pub fn run_cases(heap: Global, table: &[u8]) -> io::Result<Verdict>
+pub fn run_cases(heap: Global, table: &[u8]) -> Result<Verdict, AllocError>
     ensures passed_where_the_table_passes { IfOk result (λ v. v.passed ≡ passes table.now) }
     ensures passed_conforms { IfOk result (λ v.
         (v.passed ≡ true → Conforms (cases table.now) × (left_over table.now ≡ []))) }
@@ -107,7 +108,7 @@ pub fn run_cases(heap: Global, table: &[u8]) -> io::Result<Verdict>
 
 /// The same of a table of causes.
 #[tactic(auto, using(crate::proofs::Agreement::passes_conforms))]
-pub fn run_causes(heap: Global, table: &[u8]) -> io::Result<Verdict>
+pub fn run_causes(heap: Global, table: &[u8]) -> Result<Verdict, AllocError>
     ensures passed_where_the_table_passes { IfOk result (λ v. v.passed ≡ causes_pass table.now) }
     ensures passed_conforms { IfOk result (λ v.
         (v.passed ≡ true → CausesConform (cases table.now) × (left_over table.now ≡ []))) }
@@ -118,7 +119,7 @@ pub fn run_causes(heap: Global, table: &[u8]) -> io::Result<Verdict>
 
 /// The verdict on both tables: passed where both are, with each summary under its table's name. An error is want of
 /// memory alone.
-pub fn run_tables(heap: Global, reports: &[u8], causes: &[u8]) -> io::Result<Verdict>
+pub fn run_tables(heap: Global, reports: &[u8], causes: &[u8]) -> Result<Verdict, AllocError>
     ensures passed_where_both_pass { IfOk result (λ v.
         v.passed ≡ (passes reports.now && causes_pass causes.now)) }
     ensures text_is_both_summaries { IfOk result (λ v.
@@ -127,10 +128,10 @@ pub fn run_tables(heap: Global, reports: &[u8], causes: &[u8]) -> io::Result<Ver
     let reports = run_cases(heap, reports)?;
     let causes = run_causes(heap, causes)?;
     let mut text = Vec::new(heap);
-    writeln!(text, "reports:")?;
-    text.write_all(reports.text.as_slice())?;
-    writeln!(text, "causes:")?;
-    text.write_all(causes.text.as_slice())?;
+    text.extend_from_slice(b"reports:\n")?;
+    text.extend_from_slice(reports.text.as_slice())?;
+    text.extend_from_slice(b"causes:\n")?;
+    text.extend_from_slice(causes.text.as_slice())?;
     Ok(Verdict {
         passed: reports.passed && causes.passed,
         text,
