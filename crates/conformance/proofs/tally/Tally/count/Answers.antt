@@ -37,8 +37,8 @@ returns c =
     let so_far = findings_in c.loop-case.tally in
     let rest = c.loop-case.rest.now in
     let none = was_none rest c.in_default.ensures.first_case_and_the_rest in
-    let found : so_far ≡ findings_of asked (cases c.args.table.now) =
-    sym (onward_none asked so_far) ∙ ap (onward asked so_far) (sym (cases_none rest none)) ∙ c.loop-case.invariant.0 in
+    let nil = sym (cases_none rest none) in
+    let found : so_far ≡ findings_of asked (cases c.args.table.now) = sym (onward_none asked so_far) ∙ ap (onward asked so_far) nil ∙ c.loop-case.invariant.0 in
     let few = count_by-le-length (agrees asked) (cases c.args.table.now) in
     record {
       all_cases_are_run = found;
