@@ -86,7 +86,7 @@ fn verdict_on(heap: Global, question: Question, table: &[u8]) -> Result<Verdict,
 {
     let tally = Tally::count(heap, question, table)?;
     let mut text = Vec::new(heap);
-    // What is written to memory fails only where memory is not found.
+    // Text is made and written in memory here, which fails only where memory is not found.
     write_summary(&mut text, question, &tally).map_err(|_| AllocError)?;
     Ok(Verdict {
         passed: tally.is_clean(),
